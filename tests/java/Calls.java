@@ -525,6 +525,71 @@ public final class Calls extends Expectations {
         expect("a close with the longest time for its thread", "done", ending(patient::close));
     }
 
+    /** A factory whose texts a call makes. */
+    private static final class Called extends BasePooledObjectFactory<String> {
+        private final Callable<String> making;
+
+        Called(Callable<String> making) {
+            this.making = making;
+        }
+
+        @Override
+        public String create() throws Exception {
+            return making.call();
+        }
+
+        @Override
+        public PooledObject<String> wrap(String text) {
+            return new DefaultPooledObject<>(text);
+        }
+    }
+
+    /** A close also waits for the round of a maintenance thread that another one has replaced. */
+    private static void closedAfterReplacement() throws Exception {
+        GenericObjectPoolConfig<String> config = config();
+        config.setMinIdle(1);
+        config.setTimeBetweenEvictionRuns(Duration.ofMillis(1));
+        config.setEvictorShutdownTimeout(Duration.ofMillis(LONGEST_MILLIS));
+        CompletableFuture<Thread> begun = new CompletableFuture<>();
+        CountDownLatch mayGoOn = new CountDownLatch(1);
+        ZuphinkaPool<String> pool = new ZuphinkaPool<>(new Called(() -> {
+            begun.complete(Thread.currentThread());
+            mayGoOn.await();
+            return "text";
+        }), config);
+        Thread replaced = begun.get(LONGEST_MILLIS, TimeUnit.MILLISECONDS);
+        pool.setTimeBetweenEvictionRuns(Duration.ofHours(1));
+        FutureTask<Object> closing = begun(() -> {
+            pool.close();
+            return replaced.isAlive();
+        });
+        expect("a close during the round of a replaced thread", "TimeoutException: null", result(() -> closing.get(300, TimeUnit.MILLISECONDS)));
+        mayGoOn.countDown();
+        expect("the thread lives after the close", false, within(closing));
+    }
+
+    /** A maintenance thread has the context's class loader of the thread that made the pool, while it maintains that. */
+    private static void contextOfMaintenance() throws Exception {
+        GenericObjectPoolConfig<String> config = config();
+        config.setMinIdle(1);
+        CompletableFuture<Thread> maintaining = new CompletableFuture<>();
+        CompletableFuture<ClassLoader> found = new CompletableFuture<>();
+        Called factory = new Called(() -> {
+            maintaining.complete(Thread.currentThread());
+            found.complete(Thread.currentThread().getContextClassLoader());
+            return "text";
+        });
+        ClassLoader context = new ClassLoader() {};
+        ClassLoader usual = Thread.currentThread().getContextClassLoader();
+        Thread.currentThread().setContextClassLoader(context);
+        ZuphinkaPool<String> pool = new ZuphinkaPool<>(factory, config);
+        Thread.currentThread().setContextClassLoader(usual);
+        pool.setTimeBetweenEvictionRuns(Duration.ofMillis(1));
+        expect("the class loader of a round", context, found.get(LONGEST_MILLIS, TimeUnit.MILLISECONDS));
+        pool.close();
+        expect("that of the thread after it", null, maintaining.get().getContextClassLoader());
+    }
+
     /** A pool whose constructor takes longer than the first pauses of its maintenance thread. */
     private static final class Slow extends ZuphinkaPool<String> {
         private static final AtomicInteger EARLY = new AtomicInteger();
@@ -915,6 +980,11 @@ public final class Calls extends Expectations {
         other.close();
         pool.close();
         expect("unregistered", false, server.isRegistered(name));
+        ZuphinkaPool<String> next = new ZuphinkaPool<>(new Texts());
+        expect("the free name", name, next.getJmxName());
+        pool.close();
+        expect("a second close of the pool that had it", true, server.isRegistered(name));
+        next.close();
     }
 
     /** A closed pool says so, also if its journal has no room and borrows reclaim. */
@@ -1146,6 +1216,8 @@ public final class Calls extends Expectations {
         failures();
         upkeep();
         closedDuringMaintenance();
+        closedAfterReplacement();
+        contextOfMaintenance();
         construction();
         abandonment();
         abandonedLease();

@@ -1,15 +1,18 @@
+import com.sun.management.ThreadMXBean;
 import io.github.zuphinka.Journal;
 import io.github.zuphinka.Lease;
 import io.github.zuphinka.ZuphinkaPool;
 import java.io.IOException;
 import java.io.PrintWriter;
 import java.io.StringWriter;
+import java.lang.management.ManagementFactory;
 import java.time.Duration;
 import java.util.ArrayList;
 import java.util.List;
 import java.util.concurrent.BlockingQueue;
 import java.util.concurrent.LinkedBlockingQueue;
 import java.util.concurrent.atomic.AtomicInteger;
+import javax.management.MBeanServer;
 import org.apache.commons.pool2.DestroyMode;
 import org.apache.commons.pool2.PooledObject;
 import org.apache.commons.pool2.impl.AbandonedConfig;
@@ -116,6 +119,57 @@ public final class Errors extends Expectations {
             expect("a pool that was called with a full stack", "1 idle, 0 active, 1 created, 0 destroyed", afterLoan(pool));
             pool.close();
         }
+    }
+
+    /** Closes a pool. */
+    private static final class CloseDiver extends Diver {
+        CloseDiver(ZuphinkaPool<Object> pool) {
+            super(pool);
+        }
+
+        @Override
+        void makeLoan() {
+            pool.close();
+        }
+    }
+
+    /** A close that a full stack refuses ends nothing. */
+    private static void refusedCloses() throws Exception {
+        GenericObjectPoolConfig<Object> config = config(1);
+        config.setJmxEnabled(true);
+        config.setMinIdle(1);
+        ZuphinkaPool<Object> pool = new ZuphinkaPool<>(new Plain(), config);
+        MBeanServer server = ManagementFactory.getPlatformMBeanServer();
+        Thread thread = new Thread(null, new CloseDiver(pool), "diver", SMALL_STACK);
+        thread.start();
+        thread.join();
+        expect("a close with a full stack", "open, registered", state(pool, server));
+        expect("a loan after it", "1 idle, 0 active, 1 created, 0 destroyed", afterLoan(pool));
+        pool.clear();
+        pool.setTimeBetweenEvictionRuns(Duration.ofMillis(1));
+        until(() -> pool.getNumIdle() == 1);
+        expect("its maintenance", 1, pool.getNumIdle());
+        pool.close();
+        expect("a close", "closed, not registered", state(pool, server));
+    }
+
+    private static String state(ZuphinkaPool<Object> pool, MBeanServer server) {
+        return (pool.isClosed() ? "closed, " : "open, ") + (server.isRegistered(pool.getJmxName()) ? "registered" : "not registered");
+    }
+
+    /** Whether a pool is closed is known without memory, also to the maintenance thread. */
+    private static void closedWithoutMemory() {
+        ZuphinkaPool<Object> pool = new ZuphinkaPool<>(new Plain(), config(1));
+        ThreadMXBean threads = (ThreadMXBean) ManagementFactory.getThreadMXBean();
+        long thread = Thread.currentThread().getId();
+        long before = threads.getThreadAllocatedBytes(thread);
+        int closed = 0;
+        for (int number = 0; number < 1_000; number++) {
+            closed += pool.isClosed() ? 1 : 0;
+        }
+        long bytes = threads.getThreadAllocatedBytes(thread) - before;
+        expect("memory for a thousand answers, " + bytes + " bytes", true, bytes < 1_000 && closed == 0);
+        pool.close();
     }
 
     /** What receives the failures of a sink. */
@@ -427,6 +481,8 @@ public final class Errors extends Expectations {
 
     public static void main(String[] words) throws Exception {
         fullStacks();
+        refusedCloses();
+        closedWithoutMemory();
         sinks();
         reports();
         for (Throwable error : List.of(new OutOfMemoryError("a call"), new IllegalArgumentException("a call"))) {

@@ -6,19 +6,24 @@ import io.github.zuphinka.ZuphinkaPool;
 import java.io.ByteArrayOutputStream;
 import java.io.IOException;
 import java.io.OutputStream;
+import java.lang.management.ManagementFactory;
 import java.nio.charset.StandardCharsets;
 import java.nio.file.Files;
 import java.nio.file.Path;
+import java.time.Duration;
 import java.util.ArrayList;
 import java.util.Arrays;
 import java.util.Collections;
 import java.util.Comparator;
 import java.util.List;
 import java.util.Locale;
+import java.util.Set;
 import java.util.concurrent.CyclicBarrier;
 import java.util.concurrent.TimeUnit;
 import java.util.stream.Collectors;
 import java.util.stream.Stream;
+import javax.management.MBeanServer;
+import javax.management.ObjectName;
 import org.apache.commons.pool2.BasePooledObjectFactory;
 import org.apache.commons.pool2.PooledObject;
 import org.apache.commons.pool2.impl.DefaultPooledObject;
@@ -146,6 +151,28 @@ public final class Folders extends Expectations {
         } catch (IOException e) {
             expect("a folder with a journal", TAKEN, e.getClass().getSimpleName());
         }
+    }
+
+    /** A pool whose maintenance thread cannot be started. */
+    private static final class Unmade extends ZuphinkaPool<String> {
+        Unmade(Journal journal) {
+            super(new Texts(), new GenericObjectPoolConfig<>(), null, journal);
+        }
+
+        @Override
+        public Duration getDurationBetweenEvictionRuns() {
+            throw new OutOfMemoryError("thread");
+        }
+    }
+
+    /** A pool that cannot be made leaves its folder to another one, and no MBean. */
+    private static void unmade(Path folder) throws Exception {
+        MBeanServer server = ManagementFactory.getPlatformMBeanServer();
+        ObjectName all = new ObjectName("org.apache.commons.pool2:*");
+        Journal journal = Journal.inFolder(folder);
+        expect("a pool that cannot be made", "OutOfMemoryError: thread", result(() -> new Unmade(journal)));
+        expect("its MBean", Set.of(), server.queryNames(all, null));
+        expect("another pool with its journal", "done", ending(() -> new Noting(new Texts(), journal).play(1).close()));
     }
 
     /** Two pools store their first segments at the same time. One has two entries for each of the other's. */
@@ -354,6 +381,7 @@ public final class Folders extends Expectations {
         texts();
         large(folder.resolve("large"));
         twoPools(folder.resolve("two"));
+        unmade(folder.resolve("unmade"));
         for (int number = 0; number < RACES; number++) {
             race(folder.resolve("race-" + number));
         }

@@ -2,6 +2,7 @@ package io.github.zuphinka;
 
 import java.lang.ref.WeakReference;
 import java.time.Duration;
+import java.util.List;
 import java.util.concurrent.TimeUnit;
 import java.util.concurrent.locks.LockSupport;
 
@@ -11,22 +12,25 @@ import java.util.concurrent.locks.LockSupport;
  */
 final class Maintenance implements Runnable {
     private final WeakReference<ZuphinkaPool<?>> pool;
+    private final WeakReference<ClassLoader> context;
     final Duration pause;
     private final long pauseNanos;
     private final Thread thread;
     private volatile boolean isStopped;
 
-    private Maintenance(ZuphinkaPool<?> pool, Duration pause) {
+    private Maintenance(ZuphinkaPool<?> pool, Duration pause, WeakReference<ClassLoader> context) {
         this.pool = new WeakReference<>(pool);
+        this.context = context;
         this.pause = pause;
         pauseNanos = pause.getSeconds() >= TimeUnit.DAYS.toSeconds(10_000) ? Long.MAX_VALUE : Math.max(1, pause.toNanos());
         thread = new Thread(this, "zuphinka-maintenance");
         thread.setDaemon(true);
+        thread.setContextClassLoader(null);
     }
 
-    /** Starts the thread. It first waits for the pause. */
-    static Maintenance start(ZuphinkaPool<?> pool, Duration pause) {
-        Maintenance maintenance = new Maintenance(pool, pause);
+    /** Starts the thread, which has a class loader as that of its context while it maintains the pool. It first waits for the pause. */
+    static Maintenance start(ZuphinkaPool<?> pool, Duration pause, WeakReference<ClassLoader> context) {
+        Maintenance maintenance = new Maintenance(pool, pause, context);
         maintenance.thread.start();
         return maintenance;
     }
@@ -53,12 +57,15 @@ final class Maintenance implements Runnable {
         if (kept == null || kept.isClosed()) {
             return false;
         }
+        thread.setContextClassLoader(context.get());
         try {
             kept.maintain();
         } catch (Exception | Error e) {
             if (!kept.isClosed()) {
                 kept.swallow(e);
             }
+        } finally {
+            thread.setContextClassLoader(null);
         }
         return true;
     }
@@ -69,13 +76,21 @@ final class Maintenance implements Runnable {
         LockSupport.unpark(thread);
     }
 
-    /** Waits for its end up to a time, and a day at most. */
-    void await(Duration longest) {
-        if (thread == Thread.currentThread()) {
+    boolean isOver() {
+        return !thread.isAlive();
+    }
+
+    /** Waits for the ends of threads, up to a time and a day at most for all of them. One of them waits for none, since another may wait for it. */
+    static void await(List<Maintenance> ending, Duration longest) {
+        if (ending.stream().anyMatch(each -> each.thread == Thread.currentThread())) {
             return;
         }
+        long begun = System.nanoTime();
+        long nanos = TimeUnit.MILLISECONDS.toNanos(longest.toDays() > 0 ? TimeUnit.DAYS.toMillis(1) : Math.max(1, longest.toMillis()));
         try {
-            thread.join(longest.toDays() > 0 ? TimeUnit.DAYS.toMillis(1) : Math.max(1, longest.toMillis()));
+            for (Maintenance each : ending) {
+                TimeUnit.NANOSECONDS.timedJoin(each.thread, nanos - (System.nanoTime() - begun));
+            }
         } catch (InterruptedException e) {
             Thread.currentThread().interrupt();
         }

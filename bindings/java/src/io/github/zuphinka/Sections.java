@@ -24,6 +24,7 @@ final class Sections<T> {
     private final boolean isFair;
     /** They change with the lock. */
     private volatile CoreSettings<T> settings;
+    private volatile boolean isClosed;
     private final long start = System.nanoTime();
     private final ReentrantLock lock = new ReentrantLock();
     private final BooleanSupplier isTaken = () -> lock.isLocked() || !lock.tryLock();
@@ -41,7 +42,6 @@ final class Sections<T> {
     private final Waiters waiters = new Waiters();
     /** The thread that is to be unparked once the lock is free; null if there is none. */
     private Thread woken;
-    private boolean isClosed;
     /** The time of the last step, in milliseconds since the start. */
     private long latest;
     /** How often a waiter is to be overtaken at most, and the bound that the core has until the waiters who were overtaken more often have left. */
@@ -771,7 +771,9 @@ final class Sections<T> {
                 call.action = Core.ACTION_DONE;
                 return call;
             }
-            isClosed |= kind == Core.KIND_CLOSE;
+            if (kind == Core.KIND_CLOSE) {
+                isClosed = true;
+            }
             beginCall(call);
         } finally {
             release();
@@ -969,8 +971,8 @@ final class Sections<T> {
         });
     }
 
-    /** Returns whether the pool was closed. */
+    /** Returns whether the pool was closed. It takes no lock, and needs neither memory nor much stack. */
     boolean isClosed() {
-        return locked(() -> isClosed);
+        return isClosed;
     }
 }

@@ -1,12 +1,16 @@
 package io.github.zuphinka;
 
 import java.io.IOException;
+import java.lang.ref.WeakReference;
 import java.time.Duration;
 import java.time.Instant;
+import java.util.ArrayList;
+import java.util.List;
 import java.util.NoSuchElementException;
 import java.util.Set;
 import java.util.concurrent.ConcurrentHashMap;
 import java.util.concurrent.TimeUnit;
+import java.util.concurrent.atomic.AtomicBoolean;
 import java.util.function.UnaryOperator;
 import java.util.stream.Collectors;
 import javax.management.ObjectName;
@@ -56,10 +60,15 @@ public class ZuphinkaPool<T> extends ConfiguredPool<T> implements ObjectPool<T>,
     /** The threads that are in {@link #swallowed}. */
     private final Set<Thread> reporting = ConcurrentHashMap.newKeySet();
     private final ObjectName beanName;
+    private final AtomicBoolean isRegistered = new AtomicBoolean();
+    /** The context's class loader of the thread that makes the pool. */
+    private final WeakReference<ClassLoader> context = new WeakReference<>(Thread.currentThread().getContextClassLoader());
     /** Protects what follows. */
     private final Object upkeep = new Object();
     /** Null: the settings have none, or the pool is closed. */
     private Maintenance maintenance;
+    /** The threads that end after the rounds in which they are. */
+    private final List<Maintenance> stopped = new ArrayList<>();
     private boolean isEnded;
 
     /**
@@ -97,7 +106,7 @@ public class ZuphinkaPool<T> extends ConfiguredPool<T> implements ObjectPool<T>,
 
     /**
      * Makes a pool whose journal is dropped, kept or stored. If the configuration has JMX enabled, it registers an MBean. If it has a positive time
-     * between eviction runs, it starts a daemon thread that calls {@link #maintain}.
+     * between eviction runs, it starts a daemon thread that calls {@link #maintain}, with the context's class loader of the thread that makes the pool.
      *
      * @param factory makes, activates, tests, passivates and destroys the objects
      * @param config the settings; not null
@@ -116,8 +125,14 @@ public class ZuphinkaPool<T> extends ConfiguredPool<T> implements ObjectPool<T>,
         CoreSettings<T> settings = new CoreSettings<>(config, abandoned, journal.limit);
         work = new Work<>(factory, settings, objects, this::swallow);
         sections = open(settings, journal, work);
-        beanName = config.getJmxEnabled() ? PoolBean.register(this, config, factory.getClass().getName()) : null;
-        startMaintenance();
+        try {
+            beanName = config.getJmxEnabled() ? PoolBean.register(this, config, factory.getClass().getName()) : null;
+            isRegistered.set(beanName != null);
+            startMaintenance();
+        } catch (Throwable e) {
+            undo(journal);
+            throw e;
+        }
     }
 
     private static <T> Sections<T> open(CoreSettings<T> settings, Journal journal, Work<T> work) {
@@ -127,6 +142,19 @@ public class ZuphinkaPool<T> extends ConfiguredPool<T> implements ObjectPool<T>,
         } catch (Throwable e) {
             journal.leave();
             throw e;
+        }
+    }
+
+    /** Leaves nothing of a pool that could not be made. */
+    private void undo(Journal journal) {
+        journal.leave();
+        unregister();
+    }
+
+    /** Unregisters the MBean, unless that was done: its name may be another pool's then. */
+    private void unregister() {
+        if (isRegistered.getAndSet(false)) {
+            PoolBean.unregister(beanName);
         }
     }
 
@@ -152,12 +180,21 @@ public class ZuphinkaPool<T> extends ConfiguredPool<T> implements ObjectPool<T>,
         synchronized (upkeep) {
             Duration pause = getDurationBetweenEvictionRuns();
             if (maintenance != null && !maintenance.pause.equals(pause)) {
-                maintenance.stop();
-                maintenance = null;
+                stopMaintenance();
             }
             if (maintenance == null && !isEnded && !pause.isNegative() && !pause.isZero()) {
-                maintenance = Maintenance.start(this, pause);
+                maintenance = Maintenance.start(this, pause, context);
             }
+        }
+    }
+
+    /** Has no maintenance thread any more. The caller protects what this changes. */
+    private void stopMaintenance() {
+        stopped.removeIf(Maintenance::isOver);
+        if (maintenance != null) {
+            stopped.add(maintenance);
+            maintenance.stop();
+            maintenance = null;
         }
     }
 
@@ -506,25 +543,22 @@ public class ZuphinkaPool<T> extends ConfiguredPool<T> implements ObjectPool<T>,
         try {
             sections.make(Core.KIND_CLOSE, null);
         } finally {
-            end();
+            if (sections.isClosed()) {
+                end();
+            }
         }
     }
 
-    /** Ends what a pool has besides its objects. */
+    /** Ends what a closed pool has besides its objects. */
     private void end() {
-        Maintenance last;
+        List<Maintenance> ending;
         synchronized (upkeep) {
             isEnded = true;
-            last = maintenance;
-            maintenance = null;
+            stopMaintenance();
+            ending = List.copyOf(stopped);
         }
-        if (last != null) {
-            last.stop();
-            last.await(settings().config.getEvictorShutdownTimeoutDuration());
-        }
-        if (beanName != null) {
-            PoolBean.unregister(beanName);
-        }
+        Maintenance.await(ending, settings().config.getEvictorShutdownTimeoutDuration());
+        unregister();
         sections.endJournal();
     }
 
