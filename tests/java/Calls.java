@@ -33,6 +33,7 @@ import org.apache.commons.pool2.BasePooledObjectFactory;
 import org.apache.commons.pool2.DestroyMode;
 import org.apache.commons.pool2.ObjectPool;
 import org.apache.commons.pool2.PooledObject;
+import org.apache.commons.pool2.PooledObjectState;
 import org.apache.commons.pool2.TrackedUse;
 import org.apache.commons.pool2.impl.AbandonedConfig;
 import org.apache.commons.pool2.impl.DefaultPooledObject;
@@ -864,6 +865,42 @@ public final class Calls extends Expectations {
         countedByThreads(config);
     }
 
+    /** Notes the states of the wrappers that it tests and passivates. */
+    private static final class Stating extends Plain {
+        final List<PooledObjectState> seen = new ArrayList<>();
+
+        @Override
+        public boolean validateObject(PooledObject<Object> pooled) {
+            return seen.add(pooled.getState());
+        }
+
+        @Override
+        public void passivateObject(PooledObject<Object> pooled) {
+            seen.add(pooled.getState());
+        }
+    }
+
+    /** The states that a factory sees in a return and in an eviction run, which are others in the library. */
+    private static void states() throws Exception {
+        GenericObjectPoolConfig<Object> config = new GenericObjectPoolConfig<>();
+        config.setJmxEnabled(false);
+        config.setTestOnReturn(true);
+        config.setTestWhileIdle(true);
+        Stating ofLibrary = new Stating();
+        GenericObjectPool<Object> library = new GenericObjectPool<>(ofLibrary, config);
+        library.returnObject(library.borrowObject());
+        library.evict();
+        expect("states in the library", List.of(PooledObjectState.RETURNING, PooledObjectState.RETURNING, PooledObjectState.EVICTION,
+                PooledObjectState.EVICTION), ofLibrary.seen);
+        library.close();
+        Stating own = new Stating();
+        ZuphinkaPool<Object> pool = new ZuphinkaPool<>(own, config);
+        pool.returnObject(pool.borrowObject());
+        pool.evict();
+        expect("states here", List.of(PooledObjectState.ALLOCATED, PooledObjectState.ALLOCATED, PooledObjectState.IDLE, PooledObjectState.IDLE), own.seen);
+        pool.close();
+    }
+
     private static void logged(GenericObjectPoolConfig<Object> config) throws Exception {
         AbandonedConfig abandoned = new AbandonedConfig();
         StringWriter log = new StringWriter();
@@ -920,6 +957,69 @@ public final class Calls extends Expectations {
         expect("an object that was used", "NoSuchElementException: Pool exhausted", result(pool::borrowObject));
         Thread.sleep(1_050);
         expect("it is abandoned later", false, pool.borrowObject() == tracked);
+        pool.close();
+        write(pool);
+    }
+
+    /** A wrapper that first acts, and then answers what it would have answered before. */
+    private static final class Acting extends DefaultPooledObject<Tracked> {
+        Act act;
+        int asked;
+
+        Acting(Tracked tracked) {
+            super(tracked);
+        }
+
+        @Override
+        public Instant getLastBorrowInstant() {
+            Instant lent = super.getLastBorrowInstant();
+            Act once = act;
+            act = null;
+            if (once != null) {
+                asked++;
+                ending(once);
+            }
+            return lent;
+        }
+    }
+
+    /** A use by the account of an object counts for no later loan. Nor is it asked for if the pool knows a later use. */
+    private static void earlierUse() throws Exception {
+        GenericObjectPoolConfig<Tracked> config = new GenericObjectPoolConfig<>();
+        config.setJmxEnabled(false);
+        config.setMaxTotal(1);
+        AbandonedConfig abandoned = new AbandonedConfig();
+        abandoned.setRemoveAbandonedOnMaintenance(true);
+        abandoned.setRemoveAbandonedTimeout(Duration.ofSeconds(1));
+        abandoned.setUseUsageTracking(true);
+        Tracked tracked = new Tracked();
+        Acting wrapper = new Acting(tracked);
+        ZuphinkaPool<Tracked> pool = new ZuphinkaPool<>(new BasePooledObjectFactory<>() {
+            @Override
+            public Tracked create() {
+                return tracked;
+            }
+
+            @Override
+            public PooledObject<Tracked> wrap(Tracked some) {
+                return wrapper;
+            }
+        }, config, abandoned, Journal.kept());
+        pool.borrowObject();
+        Thread.sleep(5);
+        tracked.used = Instant.now();
+        Thread.sleep(1_050);
+        wrapper.act = () -> {
+            pool.returnObject(tracked);
+            pool.borrowObject();
+        };
+        pool.evict();
+        expect("an object that is lent again meanwhile", "1 asked, 0 idle, 1 active, 1 created, 0 destroyed", wrapper.asked + " asked, " + counts(pool));
+        Thread.sleep(1_050);
+        pool.use(tracked);
+        wrapper.act = () -> {};
+        pool.evict();
+        expect("one whose use was noted", "1 asked, 0 idle, 1 active, 1 created, 0 destroyed", wrapper.asked + " asked, " + counts(pool));
         pool.close();
         write(pool);
     }
@@ -1225,7 +1325,9 @@ public final class Calls extends Expectations {
         shortTimes();
         expect("objects by slot", List.of(), within(begun(Finding::faults)));
         wrappers();
+        states();
         trackedUse();
+        earlierUse();
         refusals();
         closedAndFull();
         smallJournals();

@@ -89,6 +89,7 @@ final class Call<T> {
         destroyFault = null;
         error = null;
         obstacle = null;
+        thread = null;
     }
 
     boolean isDone() {

@@ -29,7 +29,7 @@ final class Member<T> {
     /** When it was last lent and returned, by {@link System#nanoTime}. */
     private long lentAt;
     private long returnedAt;
-    /** When its holder used it by its own account, by the same clock. */
+    /** When it was last lent or used, by the same clock. */
     private long usedAt;
 
     Member(int slot, long id) {
@@ -65,6 +65,11 @@ final class Member<T> {
 
     void use(long nanoTime) {
         usedAt = nanoTime;
+    }
+
+    /** Returns whether it is lent, and was neither lent nor used since this time of {@link System#nanoTime}, as far as the core knows. */
+    boolean isUsedBefore(long nanoTime) {
+        return isLent && nanoTime - usedAt > 0;
     }
 
     /** Returns for how many nanoseconds its holder has not used it, as far as the core knows. Without the lock it may be some other time. */

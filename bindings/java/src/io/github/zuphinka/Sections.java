@@ -537,6 +537,9 @@ final class Sections<T> {
         if (call.end == Core.END_LENT) {
             lent(call.member, now, now - call.first);
         }
+        if (call.end == Core.END_NOTED) {
+            call.member.use(now);
+        }
         if (call.kind == Core.KIND_BORROW && (call.end == Core.END_TIMED_OUT || call.end == Core.END_CANCELLED)) {
             boolean isOther = call.error != null || call.obstacle != null || Thread.currentThread().isInterrupted();
             timeouts += isOther ? 0 : 1;
@@ -801,10 +804,13 @@ final class Sections<T> {
         leave(call);
     }
 
-    /** Notes a use at a time of {@link System#nanoTime}, and returns whether the journal had room for that. */
+    /** Notes a use at a time of {@link System#nanoTime}, unless a later one or loan is known, and returns whether the journal had room for that. */
     private boolean hasNoted(Member<T> member, long used, Call<T> call) {
         begin();
         try {
+            if (!member.isUsedBefore(used)) {
+                return true;
+            }
             int status = Core.step(core, millis(used), member.id, 0, call.caller, Core.INPUT_USE, 0);
             if (status == Core.STATUS_JOURNAL_FULL) {
                 call.cuts = journal.cuts();

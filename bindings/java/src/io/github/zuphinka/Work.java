@@ -256,7 +256,9 @@ final class Work<T> {
             member.pooled.setRequireFullStackTrace(abandoned.getRequireFullStackTrace());
         }
         member.isWrapperTold = !isWrapperUnseen || isTracked || member.pooled.getClass() != DefaultPooledObject.class;
-        hasTracked |= isTracked;
+        if (isTracked) {
+            hasTracked = true; // another thread may have set it meanwhile
+        }
         return objects.add(member);
     }
 
