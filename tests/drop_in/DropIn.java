@@ -1,10 +1,16 @@
+import java.lang.management.ManagementFactory;
+import java.nio.file.Files;
+import java.nio.file.Path;
 import java.time.Duration;
 import java.util.ArrayList;
 import java.util.List;
 import java.util.NoSuchElementException;
 import java.util.Random;
+import java.util.Set;
 import java.util.concurrent.FutureTask;
 import java.util.concurrent.atomic.AtomicInteger;
+import javax.management.MBeanServer;
+import javax.management.ObjectName;
 import org.apache.commons.pool2.BasePooledObjectFactory;
 import org.apache.commons.pool2.DestroyMode;
 import org.apache.commons.pool2.PooledObject;
@@ -20,7 +26,7 @@ public final class DropIn extends Expectations {
     private DropIn() {}
 
     /** Counts the objects that it made and destroyed, and how many there were at most. */
-    private static final class Counted extends BasePooledObjectFactory<Object> {
+    private static class Counted extends BasePooledObjectFactory<Object> {
         private final AtomicInteger alive = new AtomicInteger();
         private final AtomicInteger most = new AtomicInteger();
         private final AtomicInteger destroyedTwice = new AtomicInteger();
@@ -150,6 +156,63 @@ public final class DropIn extends Expectations {
         expect("alive", 0, factory.alive.get());
     }
 
+    /** A pool that cannot be made leaves no MBean. */
+    private static void unmade() throws Exception {
+        MBeanServer server = ManagementFactory.getPlatformMBeanServer();
+        ObjectName all = new ObjectName("org.apache.commons.pool2:*");
+        Set<ObjectName> before = server.queryNames(all, null);
+        String journals = System.getProperty("zuphinka.journals");
+        Path file = Files.createTempFile("zuphinka", "");
+        System.setProperty("zuphinka.journals", file.resolve("journals").toString());
+        expect("journals below a file", "UncheckedIOException", kind(ending(() -> new GenericObjectPool<>(new Counted()).close())));
+        expect("the MBean", before, server.queryNames(all, null));
+        Files.delete(file);
+        if (journals == null) {
+            System.clearProperty("zuphinka.journals");
+        } else {
+            System.setProperty("zuphinka.journals", journals);
+        }
+    }
+
+    /** What a factory throws is thrown, also if the pool is closed meanwhile. */
+    private static void closedWhileMaking() {
+        List<GenericObjectPool<Object>> pools = new ArrayList<>();
+        pools.add(pool(new Counted() {
+            @Override
+            public Object create() {
+                pools.get(0).close();
+                throw new IllegalStateException("make");
+            }
+        }));
+        expect("a make that fails during a close", "IllegalStateException: make", result(pools.get(0)::borrowObject));
+    }
+
+    /** An eviction run that ends in an error tells what a test threw before that. */
+    private static void failingRun() throws Exception {
+        List<Throwable> failures = new ArrayList<>(List.of(new IllegalArgumentException("first"), new StackOverflowError("second")));
+        GenericObjectPool<Object> pool = pool(new Counted() {
+            @Override
+            public boolean validateObject(PooledObject<Object> pooled) {
+                Throwable failure = failures.remove(0);
+                if (failure instanceof Error) {
+                    throw (Error) failure;
+                }
+                throw (RuntimeException) failure;
+            }
+        });
+        pool.setTestWhileIdle(true);
+        pool.addObject();
+        pool.addObject();
+        try {
+            pool.evict();
+            expect("a run that ends in an error", "an error", "done");
+        } catch (StackOverflowError e) {
+            expect("a run that ends in an error", "second [java.lang.IllegalArgumentException: first]",
+                    e.getMessage() + " " + List.of(e.getSuppressed()));
+        }
+        pool.close();
+    }
+
     private static void closedWhileWaiting() throws Exception {
         GenericObjectPool<Object> pool = pool(new Counted());
         pool.setMaxTotal(1);
@@ -213,6 +276,9 @@ public final class DropIn extends Expectations {
         }
         freeSettings();
         closedWhileWaiting();
+        closedWhileMaking();
+        failingRun();
+        unmade();
         changedByThreads();
         printCounts();
     }

@@ -84,6 +84,11 @@ class CountedFactory<T> extends BasePooledObjectFactory<T> {
         failures.set(failure);
         try {
             run.make();
+        } catch (Throwable e) {
+            if (failure.first != null && failure.first != e) {
+                e.addSuppressed(failure.first);
+            }
+            throw e;
         } finally {
             failures.remove();
         }

@@ -57,9 +57,14 @@ public class GenericObjectPool<T> extends BaseGenericObjectPool<T> implements Ob
             throw new IllegalArgumentException("Factory may not be null");
         }
         this.factory = factory;
-        counted = CountedFactory.of(factory, this);
-        pool = new ProvedPool<>(this, counted);
-        setConfig(config);
+        try {
+            counted = CountedFactory.of(factory, this);
+            pool = new ProvedPool<>(this, counted);
+            setConfig(config);
+        } catch (Throwable e) {
+            jmxUnregister();
+            throw e;
+        }
     }
 
     /**
@@ -110,7 +115,7 @@ public class GenericObjectPool<T> extends BaseGenericObjectPool<T> implements Ob
         } catch (NoSuchElementException e) {
             throw none(e, borrowMaxWaitDuration);
         } catch (IllegalStateException e) {
-            throw isClosed() ? closedMeanwhile(e) : e;
+            throw isClosed() && "Pool not open".equals(e.getMessage()) ? closedMeanwhile(e) : e;
         } finally {
             pool.showCounts();
         }
