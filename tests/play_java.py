@@ -5,16 +5,16 @@
 
 LIBRARY is libzuphinka.a, and the others are programs. tests/java/Calls.java makes each call of a pool, with what the factory throws.
 tests/java/Policies.java has eviction policies of the user's own, in this pool and in Commons Pool. tests/java/Errors.java lets everything that a pool
-calls end in an error, and calls pools on a full stack. tests/java/Waits.java lets threads wait, and counts who overtakes. tests/java/Measures.java
-reads metrics, whose texts must be in the format. tests/java/Stress.java makes random calls in eight threads over a factory that fails at random.
-tests/java/Refusals.java refuses the native library each of its allocations in turn. tests/java/Folders.java has pools that want one folder, and
-folders that are removed. tests/java/Reconfigures.java changes the settings of pools in use, also beside threads, and tests/java/RefusedChanges.java while
-allocations fail: JUDGE must find each segment legal by the settings beside it, and each must begin at the base that the one before it reached.
-tests/java/Loaders.java has pools in two class loaders, where temporary folders are unfit. A pool runs in a module too. The journals that they write must
-be legal. A stored file must be synced before it has its name, and its folder afterwards. The jar must have the version
-of all products and load nothing but the C library, and the codes of io.github.zuphinka.Core must be those of bindings/c/include/zuphinka.h. Each
-public and protected item must have documentation in which javac finds nothing wrong. The examples are run by the commands of bindings/java/README.md;
-the journal of that over DBCP2 must be drawn. What needs a JDK or a jar that is missing is skipped, with the reason.
+calls end in an error, and calls pools on a full stack. tests/java/Waits.java lets threads wait, also on a full heap, and counts who overtakes.
+tests/java/Measures.java reads metrics, whose texts must be in the format. tests/java/Stress.java makes random calls in eight threads over a factory
+that fails at random. tests/java/Refusals.java refuses the native library each of its allocations in turn. tests/java/Folders.java has pools that want
+one folder, and folders that are removed. tests/java/Reconfigures.java changes the settings of pools in use, also beside threads, and
+tests/java/RefusedChanges.java while allocations fail: JUDGE must find each segment legal by the settings beside it, and each must begin at the base
+that the one before it reached. tests/java/Loaders.java has pools in two class loaders, where temporary folders are unfit. A pool runs in a module
+too. The journals that they write must be legal. A stored file must be synced before it has its name, and its folder afterwards. The jar must have the
+version of all products and load nothing but the C library, and the codes of io.github.zuphinka.Core must be those of bindings/c/include/zuphinka.h.
+Each public and protected item must have documentation in which javac finds nothing wrong. The examples are run by the commands of
+bindings/java/README.md; the journal of that over DBCP2 must be drawn. What needs a JDK or a jar that is missing is skipped, with the reason.
 
 Prints what fails, and in the end the line 'N passed, M failed'.
 """
@@ -57,6 +57,8 @@ SHORT_PART = 512
 EXAMPLE_JARS = {"commons-dbcp2": "libcommons-dbcp2-java", "h2": "libh2-java"}
 # What that prints: 16 of its connections break, and others take their places.
 BANK = r"1000 transfers, \d+ a second, 0 failed\n2000 euros in all\ncreated (1[7-9]|[2-9]\d), destroyed \1, idle 0, lent 0\n"
+# A heap that is full soon, and to the last byte.
+HEAP = ["-Xmx8m", "-XX:+UseSerialGC", "-XX:-UseTLAB", java.QUICK]
 # A run that takes longer hangs, in seconds.
 LONGEST = 120
 
@@ -312,6 +314,7 @@ def checks(library, pool, picture, judge):
         yield from policies(jar, classes, pool, folder)
         for name in PROGRAMS:
             yield from program(name.lower(), run(jar, classes, name))
+        yield from program("waits on a full heap", run(jar, classes, "Waits", "heap", options=HEAP))
         yield from measures(jar, classes, folder)
         native = refusing(library, folder)
         yield from refusals(jar, classes, native, pool, folder)

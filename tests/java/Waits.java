@@ -17,7 +17,10 @@ import java.util.concurrent.atomic.AtomicInteger;
 import org.apache.commons.pool2.impl.AbandonedConfig;
 import org.apache.commons.pool2.impl.GenericObjectPoolConfig;
 
-/** Threads that wait for an object: which one is woken, and in what order they are served. */
+/**
+ * Threads that wait for an object: which one is woken, and in what order they are served. {@code Waits heap} fills the heap of the virtual machine while
+ * one waits.
+ */
 public final class Waits extends Expectations {
     /** How often a thread waits beside one that borrows again at once. */
     private static final int ROUNDS = 50;
@@ -257,7 +260,64 @@ public final class Waits extends Expectations {
         pool.close();
     }
 
+    /** A thread that waits, and whose interrupt finds a full heap, leaves nothing behind. */
+    private static void fullHeap() throws Exception {
+        expect("the queue", List.of(), Queueing.faultsOnFullHeap());
+        ZuphinkaPool<Object> pool = pool(1, Journal.dropped());
+        Object lent = pool.borrowObject();
+        Throwable[] thrown = {null};
+        Thread waiter = new Thread(() -> {
+            try {
+                pool.borrowObject();
+            } catch (Throwable e) {
+                thrown[0] = e;
+            }
+        });
+        waiter.setDaemon(true);
+        waiter.start();
+        until(() -> pool.getNumWaiters() == 1 && waiter.getState() == Thread.State.TIMED_WAITING);
+        Queueing.fillHeap();
+        waiter.interrupt();
+        waiter.join(LONGEST_MILLIS);
+        Queueing.emptyHeap();
+        expect("what it throws", OutOfMemoryError.class, thrown[0] == null ? null : thrown[0].getClass());
+        expect("nobody waits", 0, pool.getNumWaiters());
+        pool.returnObject(lent);
+        expect("a borrow after it", lent, result(() -> pool.borrowObject(0)));
+        pool.close();
+    }
+
+    /** A borrow that finds no memory to wait beside so many others that their map has to grow leaves nothing behind. */
+    private static void fullHeapBesideOthers() throws Exception {
+        ZuphinkaPool<Object> pool = pool(1, Journal.dropped());
+        pool.borrowObject();
+        Duration longest = Duration.ofMillis(LONGEST_MILLIS);
+        int others = 12;
+        List<Object> got = whileWaiting(pool, others, pool::borrowObject, () -> {
+            pool.clear(); // the next call needs no memory to begin
+            Throwable thrown = null;
+            Queueing.fillHeap();
+            Queueing.freeEntry();
+            try {
+                pool.borrowObject(longest);
+            } catch (Throwable e) {
+                thrown = e;
+            }
+            Queueing.emptyHeap();
+            expect("a borrow beside others", OutOfMemoryError.class, thrown == null ? null : thrown.getClass());
+            expect("they alone wait", others, pool.getNumWaiters());
+            pool.close();
+        });
+        expect("they wait until the close", Collections.nCopies(others, "IllegalStateException: Pool not open"), got);
+    }
+
     public static void main(String[] words) throws Exception {
+        if (words.length > 0) {
+            fullHeap();
+            fullHeapBesideOthers();
+            printCounts();
+            return;
+        }
         expect("the queue", List.of(), Queueing.faults());
         overtaking();
         arrival();

@@ -18,7 +18,84 @@ public final class Queueing {
         queueing.aWakeIsForOneSleep();
         queueing.whoLeavesIsForgotten();
         queueing.aSleepEnds();
+        queueing.turns();
         return queueing.faults;
+    }
+
+    /** Returns what is wrong on a full heap, where calls sleep already. */
+    public static List<String> faultsOnFullHeap() {
+        Queueing queueing = new Queueing();
+        List<Call<Object>> first = queueing.asleep(1L << 40, 2);
+        queueing.wakeInTurns(first.get(0), first.get(1)); // its classes are loaded then
+        List<Call<Object>> calls = queueing.asleep(1L << 41, 2);
+        OutOfMemoryError fault = null;
+        fillHeap();
+        try {
+            queueing.wakeInTurns(calls.get(0), calls.get(1));
+        } catch (OutOfMemoryError e) {
+            fault = e;
+        }
+        emptyHeap();
+        queueing.expect("wakes, sleeps and turns on a full heap", null, fault);
+        queueing.expect("both were woken, and have left", "ww 0", woken(calls) + " " + queueing.waiters.size());
+        return queueing.faults;
+    }
+
+    private void wakeInTurns(Call<Object> one, Call<Object> other) {
+        waiters.queue(other.ticket.number);
+        waiters.queue(one.ticket.number);
+        waiters.wake(other.ticket.number);
+        other.mayPause = true;
+        Waiters.sleep(other, Long.MAX_VALUE);
+        waiters.remove(other);
+        waiters.remove(one);
+    }
+
+    /** One of those that fill the heap, which knows the next. It takes as little as any object. */
+    private static class Filling {
+        private final Filling next;
+
+        Filling(Filling next) {
+            this.next = next;
+        }
+    }
+
+    /** One that takes more. */
+    private static final class WideFilling extends Filling {
+        private final byte[] bytes;
+
+        WideFilling(Filling next, int size) {
+            super(next);
+            bytes = new byte[size];
+        }
+    }
+
+    private static Filling filling;
+    private static byte[] reserve;
+
+    /** Fills the heap, so that nothing has memory in it. */
+    public static void fillHeap() {
+        reserve = new byte[48];
+        for (int size = 1 << 20;; size /= 2) {
+            try {
+                for (;;) {
+                    filling = size > 0 ? new WideFilling(filling, size) : new Filling(filling);
+                }
+            } catch (OutOfMemoryError e) {
+                if (size == 0) {
+                    return;
+                }
+            }
+        }
+    }
+
+    /** Leaves memory for one more entry of a map in a full heap, and not for a greater map. */
+    public static void freeEntry() {
+        reserve = null;
+    }
+
+    public static void emptyHeap() {
+        filling = null;
     }
 
     private void expect(String name, Object wanted, Object got) {
@@ -32,7 +109,7 @@ public final class Queueing {
         List<Call<Object>> calls = new ArrayList<>();
         for (int position = 0; position < number; position++) {
             Call<Object> call = new Call<Object>().begin(Core.KIND_BORROW, System.nanoTime(), null);
-            call.ticket = first + position;
+            call.ticket.number = first + position;
             waiters.add(call);
             calls.add(call);
         }
@@ -74,6 +151,23 @@ public final class Queueing {
         expect("nobody is woken", "--", woken(calls));
         expect("one is left", 1, waiters.size());
         waiters.remove(calls.get(1));
+    }
+
+    private void turns() {
+        List<Call<Object>> calls = asleep(300, 4);
+        expect("the first turn has come", "true false false", waiters.queue(300) + " " + waiters.queue(302) + " " + waiters.queue(301));
+        expect("so it has", "true false", waiters.queue(300) + " " + waiters.queue(301));
+        expect("one that does not sleep has none", false, waiters.queue(299));
+        expect("one leaves before its turn", null, waiters.remove(calls.get(2)));
+        expect("the first leaves", Thread.currentThread(), waiters.remove(calls.get(0)));
+        expect("the next is woken", "-w--", woken(calls));
+        expect("the last turn", false, waiters.queue(303));
+        expect("it leaves", null, waiters.remove(calls.get(3)));
+        expect("the one that is left leaves", null, waiters.remove(calls.get(1)));
+        expect("no turn is left", "-w-- true", woken(calls) + " " + waiters.isEmpty());
+        Call<Object> last = asleep(305, 1).get(0);
+        expect("a turn comes again", true, waiters.queue(305));
+        waiters.remove(last);
     }
 
     private void aSleepEnds() {

@@ -1,5 +1,6 @@
 package io.github.zuphinka;
 
+import java.util.function.BooleanSupplier;
 import org.apache.commons.pool2.DestroyMode;
 
 /** A call of a thread, from its beginning to its end: what it does next, and what came of it. Its thread alone uses it, but for {@link #isWoken}. */
@@ -55,10 +56,14 @@ final class Call<T> {
     long untilMillis;
     long untilNanos;
     /** The ticket by which it is woken, and whether there is a processor to pause on. */
-    long ticket;
+    final Waiters.Ticket ticket = new Waiters.Ticket();
     boolean mayPause;
     Thread thread;
     volatile boolean isWoken;
+    /** Whether it is to sleep on. */
+    final BooleanSupplier isAsleep = () -> !isWoken && !Thread.currentThread().isInterrupted();
+    /** The next one of those that are woken in turns, by the lock of the pool. */
+    Call<?> nextTurn;
 
     /** Begins anew. */
     Call<T> begin(int newKind, long now, Member<T> object) {

@@ -313,8 +313,17 @@ final class Sections<T> {
         }
     }
 
-    /** Sleeps until a call is to look again, or to be given up. Returns the report. */
+    /** Sleeps until a call is to look again, or to be given up: also if there is no memory. Returns the report. */
     private int sleep(Call<T> call) {
+        try {
+            return slept(call);
+        } catch (OutOfMemoryError e) {
+            call.keepsError(e);
+            return call.giveUp();
+        }
+    }
+
+    private int slept(Call<T> call) {
         if (call.left(call.limitNanos) == 0) {
             return call.giveUp();
         }
@@ -407,6 +416,8 @@ final class Sections<T> {
         try {
             takeUpOnce(call, reply, now);
         } catch (OutOfMemoryError e) {
+            unpark(waiters.remove(call));
+            wakeBy(reply);
             call.keepsError(e);
             call.giveUp();
             takeUpOnce(call, advanced(call, Core.REPORT_GIVEN_UP, now), now);
@@ -434,10 +445,7 @@ final class Sections<T> {
             noteEnd(call, now);
         }
         limitOvertakes();
-        if (Core.hasWake(reply)) {
-            wake(details.getLong(Core.WAKE));
-            wakeMore();
-        }
+        wakeBy(reply);
     }
 
     /** Has what the next action needs. */
@@ -455,7 +463,7 @@ final class Sections<T> {
                 call.isActivated = !work.activates && !call.testsOnCreate;
                 break;
             case Core.ACTION_SLEEP:
-                call.ticket = details.getLong(Core.TICKET);
+                call.ticket.number = details.getLong(Core.TICKET);
                 call.mayPause = Core.busy(core) <= Pauses.PROCESSORS;
                 waiters.add(call);
                 break;
@@ -573,6 +581,14 @@ final class Sections<T> {
         if (next != null) {
             LockSupport.unpark(woken);
             woken = next;
+        }
+    }
+
+    /** Wakes the calls that a reply names. */
+    private void wakeBy(long reply) {
+        if (Core.hasWake(reply)) {
+            wake(details.getLong(Core.WAKE));
+            wakeMore();
         }
     }
 
