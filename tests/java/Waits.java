@@ -4,6 +4,7 @@ import io.github.zuphinka.Segment;
 import io.github.zuphinka.SegmentSink;
 import io.github.zuphinka.ZuphinkaPool;
 import java.io.IOException;
+import java.lang.ref.WeakReference;
 import java.nio.charset.StandardCharsets;
 import java.time.Duration;
 import java.util.ArrayList;
@@ -260,6 +261,29 @@ public final class Waits extends Expectations {
         pool.close();
     }
 
+    /** Returns a thread that has waited for an object, got it, returned it and ended. */
+    private static WeakReference<Thread> endedWaiter(ZuphinkaPool<Object> pool) throws Exception {
+        Object lent = pool.borrowObject();
+        Thread waiter = new Thread(() -> ending(() -> pool.returnObject(pool.borrowObject())));
+        waiter.start();
+        until(() -> pool.getNumWaiters() == 1);
+        pool.returnObject(lent);
+        waiter.join();
+        return new WeakReference<>(waiter);
+    }
+
+    /** A pool that keeps a call for the next one keeps no thread. */
+    private static void endedThread() throws Exception {
+        ZuphinkaPool<Object> pool = pool(1, Journal.dropped());
+        WeakReference<Thread> ended = endedWaiter(pool);
+        until(() -> {
+            System.gc();
+            return ended.get() == null;
+        });
+        expect("a thread that has ended", null, ended.get());
+        pool.close();
+    }
+
     /** A thread that waits, and whose interrupt finds a full heap, leaves nothing behind. */
     private static void fullHeap() throws Exception {
         expect("the queue", List.of(), Queueing.faultsOnFullHeap());
@@ -325,6 +349,7 @@ public final class Waits extends Expectations {
         slowSink();
         sinkBesideThePool();
         failingSink();
+        endedThread();
         printCounts();
     }
 }
