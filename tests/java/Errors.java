@@ -121,28 +121,39 @@ public final class Errors extends Expectations {
         }
     }
 
-    /** Closes a pool. */
+    /** Closes a pool, until that was refused so often: some frames above these a close would be done. */
     private static final class CloseDiver extends Diver {
+        static final int MOST = 8;
+        int refused;
+
         CloseDiver(ZuphinkaPool<Object> pool) {
             super(pool);
         }
 
         @Override
         void makeLoan() {
-            pool.close();
+            try {
+                if (refused < MOST) {
+                    pool.close();
+                }
+            } catch (StackOverflowError e) {
+                refused += "zuphinka: too little stack".equals(e.getMessage()) ? 1 : 0;
+            }
         }
     }
 
-    /** A close that a full stack refuses ends nothing. */
+    /** A close that a full stack refuses ends nothing, also if it is the first call of all. */
     private static void refusedCloses() throws Exception {
         GenericObjectPoolConfig<Object> config = config(1);
         config.setJmxEnabled(true);
         config.setMinIdle(1);
         ZuphinkaPool<Object> pool = new ZuphinkaPool<>(new Plain(), config);
         MBeanServer server = ManagementFactory.getPlatformMBeanServer();
-        Thread thread = new Thread(null, new CloseDiver(pool), "diver", SMALL_STACK);
+        CloseDiver diver = new CloseDiver(pool);
+        Thread thread = new Thread(null, diver, "diver", SMALL_STACK);
         thread.start();
         thread.join();
+        expect("closes that are refused", CloseDiver.MOST, diver.refused);
         expect("a close with a full stack", "open, registered", state(pool, server));
         expect("a loan after it", "1 idle, 0 active, 1 created, 0 destroyed", afterLoan(pool));
         pool.clear();
@@ -480,9 +491,9 @@ public final class Errors extends Expectations {
     }
 
     public static void main(String[] words) throws Exception {
-        fullStacks();
         refusedCloses();
         closedWithoutMemory();
+        fullStacks();
         sinks();
         reports();
         for (Throwable error : List.of(new OutOfMemoryError("a call"), new IllegalArgumentException("a call"))) {

@@ -15,7 +15,7 @@ final class Call<T> {
     long limitNanos;
     long moreMillis;
     /** How its object is destroyed. */
-    DestroyMode mode;
+    DestroyMode mode = DestroyMode.NORMAL;
 
     /** The names of the call in the core. */
     long place;

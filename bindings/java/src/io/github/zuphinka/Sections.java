@@ -28,8 +28,8 @@ final class Sections<T> {
     private final long start = System.nanoTime();
     private final ReentrantLock lock = new ReentrantLock();
     private final BooleanSupplier isTaken = () -> lock.isLocked() || !lock.tryLock();
-    /** A call that is over, for the next one. */
-    private final AtomicReference<Call<T>> spare = new AtomicReference<>();
+    /** A call for the next one: a new one, which has its classes initialized, as would fail for good on a full stack; later one that is over. */
+    private final AtomicReference<Call<T>> spare = new AtomicReference<>(new Call<>());
 
     /** Set before a close stores the rest of the journal. */
     private volatile boolean isEnding;
