@@ -15,7 +15,10 @@ import java.util.concurrent.FutureTask;
 import java.util.concurrent.Semaphore;
 import java.util.concurrent.atomic.AtomicBoolean;
 import java.util.concurrent.atomic.AtomicInteger;
+import java.util.concurrent.locks.ReentrantLock;
+import org.apache.commons.pool2.PooledObject;
 import org.apache.commons.pool2.impl.AbandonedConfig;
+import org.apache.commons.pool2.impl.DefaultPooledObject;
 import org.apache.commons.pool2.impl.GenericObjectPoolConfig;
 
 /**
@@ -25,14 +28,20 @@ import org.apache.commons.pool2.impl.GenericObjectPoolConfig;
 public final class Waits extends Expectations {
     /** How often a thread waits beside one that borrows again at once. */
     private static final int ROUNDS = 50;
+    /** How long another thread has to find the lock held. */
+    private static final long PATIENCE_MILLIS = 100;
 
     private Waits() {}
 
     private static ZuphinkaPool<Object> pool(int maxTotal, Journal journal) {
+        return pool(new Plain(), maxTotal, journal);
+    }
+
+    private static ZuphinkaPool<Object> pool(Plain factory, int maxTotal, Journal journal) {
         GenericObjectPoolConfig<Object> config = new GenericObjectPoolConfig<>();
         config.setJmxEnabled(false);
         config.setMaxTotal(maxTotal);
-        return new ZuphinkaPool<>(new Plain(), config, null, journal);
+        return new ZuphinkaPool<>(factory, config, null, journal);
     }
 
     /** A thread that is woken and finds no room in the journal wakes the next one. */
@@ -335,8 +344,67 @@ public final class Waits extends Expectations {
         expect("they wait until the close", Collections.nCopies(others, "IllegalStateException: Pool not open"), got);
     }
 
+    /** Passivates an object until it is told to end. The wrapper needs no memory for a return. */
+    private static final class Passivating extends Plain {
+        private final AtomicBoolean isBegun = new AtomicBoolean();
+        private final AtomicBoolean mayEnd = new AtomicBoolean(true);
+
+        @Override
+        public PooledObject<Object> wrap(Object object) {
+            return new DefaultPooledObject<>(object) {
+                @Override
+                public boolean deallocate() {
+                    return true;
+                }
+            };
+        }
+
+        @Override
+        public void passivateObject(PooledObject<Object> pooled) {
+            isBegun.set(true);
+            while (!mayEnd.get()) {
+                Thread.onSpinWait();
+            }
+        }
+    }
+
+    /** A return that finds the lock held, and a full heap, once its object is passivated, ends all the same. */
+    private static void heldLockOnFullHeap() throws Exception {
+        Passivating factory = new Passivating();
+        ZuphinkaPool<Object> pool = pool(factory, 1, Journal.dropped());
+        pool.returnObject(pool.borrowObject()); // links the native methods
+        Object lent = pool.borrowObject();
+        factory.isBegun.set(false);
+        factory.mayEnd.set(false);
+        ReentrantLock lock = Queueing.lockOf(pool);
+        Throwable[] thrown = {null};
+        Thread returner = new Thread(() -> {
+            try {
+                pool.returnObject(lent);
+            } catch (Throwable e) {
+                thrown[0] = e;
+            }
+        });
+        returner.setDaemon(true);
+        returner.start();
+        until(factory.isBegun::get);
+        lock.lock();
+        Queueing.fillHeap();
+        factory.mayEnd.set(true);
+        returner.join(PATIENCE_MILLIS);
+        boolean waits = returner.isAlive();
+        lock.unlock();
+        returner.join(LONGEST_MILLIS);
+        Queueing.emptyHeap();
+        expect("a return that finds the lock held", null, thrown[0]);
+        expect("it waits for the lock", true, waits);
+        expect("the pool after it", "1 idle, 0 active, 1 created, 0 destroyed", counts(pool));
+        pool.close();
+    }
+
     public static void main(String[] words) throws Exception {
         if (words.length > 0) {
+            heldLockOnFullHeap();
             fullHeap();
             fullHeapBesideOthers();
             printCounts();

@@ -1,8 +1,10 @@
 package io.github.zuphinka;
 
+import java.lang.reflect.Field;
 import java.util.ArrayList;
 import java.util.List;
 import java.util.Objects;
+import java.util.concurrent.locks.ReentrantLock;
 
 /** Looks at the waiters of a pool without threads: which call is woken, and which is not. */
 public final class Queueing {
@@ -96,6 +98,15 @@ public final class Queueing {
 
     public static void emptyHeap() {
         filling = null;
+    }
+
+    /** Returns the lock of a pool. */
+    public static ReentrantLock lockOf(ZuphinkaPool<?> pool) throws ReflectiveOperationException {
+        Field sections = ZuphinkaPool.class.getDeclaredField("sections");
+        sections.setAccessible(true);
+        Field lock = Sections.class.getDeclaredField("lock");
+        lock.setAccessible(true);
+        return (ReentrantLock) lock.get(sections.get(pool));
     }
 
     private void expect(String name, Object wanted, Object got) {

@@ -12,6 +12,9 @@ final class Pauses {
 
     private Pauses() {}
 
+    /** Has the class initialized, which would fail for good on a full heap. */
+    static void load() {}
+
     /** Pauses while a condition is true, for some nanoseconds at most, and not at all on one processor. */
     static void pauseWhile(BooleanSupplier isToWait, long longestNanos) {
         long now = System.nanoTime();

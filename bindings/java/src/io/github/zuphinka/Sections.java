@@ -65,6 +65,7 @@ final class Sections<T> {
         isFair = settings.config.getFairness();
         JournalRoom.require(settings, journal);
         Callers.load();
+        Pauses.load();
         maxOvertakes = isFair ? 0 : CoreSettings.DEFAULT_OVERTAKES;
         overtakes = maxOvertakes;
         long opened = JournalRoom.open(settings, work.flags() | settings.flags(), maxOvertakes);
@@ -99,7 +100,18 @@ final class Sections<T> {
         }
         Pauses.pauseWhile(isTaken, Long.MAX_VALUE);
         if (!lock.isHeldByCurrentThread()) {
+            queueForLock();
+        }
+    }
+
+    /** Takes the lock in the order of those that wait for it. On a full heap it looks again and again: its queue needs memory. */
+    private void queueForLock() {
+        try {
             lock.lock();
+        } catch (OutOfMemoryError e) {
+            while (!lock.tryLock()) {
+                Thread.yield();
+            }
         }
     }
 
