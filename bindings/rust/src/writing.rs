@@ -322,12 +322,11 @@ impl<M: Manager> Shared<M> {
 
 /// Returns until when a call waits for a thread that writes a segment.
 fn end_of_wait(limit: WaitLimit, max_wait_millis: i64) -> Option<Instant> {
+    let most = u64::try_from(max_wait_millis).map(Duration::from_millis);
+    let set = most.ok().and_then(|most| Instant::now().checked_add(most));
     match limit {
         WaitLimit::None => Some(Instant::now()),
-        WaitLimit::Until(end) => Some(end),
-        WaitLimit::AsSet => {
-            let most = u64::try_from(max_wait_millis).ok()?;
-            Instant::now().checked_add(Duration::from_millis(most))
-        }
+        WaitLimit::Until(end) => set.into_iter().chain([end]).min(),
+        WaitLimit::AsSet => set,
     }
 }

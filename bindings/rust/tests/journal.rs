@@ -44,6 +44,7 @@ with_and_without_hooks! {
     a_sink_that_fails_leaves_a_gap_if_that_is_set
     others_continue_while_a_segment_is_written
     a_reclaim_waits_for_a_segment_as_long_as_its_borrow_may
+    a_borrow_waits_for_a_segment_no_longer_than_is_set
     others_continue_while_a_cut_is_written
 }
 
@@ -287,6 +288,30 @@ fn a_reclaim_waits_for_a_segment_as_long_as_its_borrow_may<const HOOKS: bool>() 
         let answers = writing.join().unwrap();
         let full = Some(Error::JournalFull);
         assert_eq!(answers, Ok((full, full)), "they waited for it");
+    });
+}
+
+fn a_borrow_waits_for_a_segment_no_longer_than_is_set<const HOOKS: bool>() {
+    let (slow, is_called, go_on) = Slow::new();
+    let builder = Pool::builder()
+        .journal(Journal::Segments(Segments::new(slow).limit(200)))
+        .max_wait(Duration::from_millis(10));
+    let pool = builder.build(Numbers::<HOOKS>).unwrap();
+    let (refused, is_refused) = mpsc::channel();
+    thread::scope(|scope| {
+        scope.spawn(|| (0..30).for_each(|_| pair(&pool)));
+        is_called.recv().unwrap();
+        // The segment is written in the end, so that a borrow that waits for it ends too.
+        let writing = scope.spawn(move || {
+            let answer = is_refused.recv_timeout(LONGEST / 4);
+            drop(go_on);
+            answer
+        });
+        let hasty = std::iter::repeat_with(|| pool.try_get().map(drop)).find_map(Result::err);
+        assert_eq!(hasty, Some(Error::JournalFull));
+        let _ = refused.send(pool.get_timeout(LONGEST).map(drop));
+        let answer = writing.join().unwrap();
+        assert_eq!(answer, Ok(Err(Error::JournalFull)), "it waited for it");
     });
 }
 
