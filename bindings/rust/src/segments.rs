@@ -219,12 +219,13 @@ fn absolute(path: &Path) -> io::Result<PathBuf> {
     }
 }
 
-/// Creates a folder, and those above it, if they do not exist. Waits until their names are stored.
+/// Creates a folder, and those above it, if they do not exist. Waits until the names of new ones are stored.
 fn create_folder(path: &Path) -> io::Result<()> {
-    let above = path.parent().unwrap_or(path);
-    if !above.is_dir() {
-        create_folder(above)?;
+    if path.is_dir() {
+        return Ok(());
     }
+    let above = path.parent().unwrap_or(path);
+    create_folder(above)?;
     match fs::create_dir(path) {
         Err(error) if !path.is_dir() => Err(error),
         _ => sync_folder(above),

@@ -147,6 +147,20 @@ fn a_file_is_synced_before_it_has_its_name_and_its_folder_afterwards() {
 }
 
 #[test]
+fn nothing_is_asked_of_what_is_above_a_folder_that_exists() {
+    let folder = fs::canonicalize(new_folder()).unwrap();
+    let journal = folder.join("journal");
+    fs::create_dir(&journal).unwrap();
+    // As where the pool may not read the folder above.
+    while_failing(folder.clone(), || {
+        let pool = pool_in(&journal);
+        pair(&pool);
+        assert_eq!(pool.flush_journal().unwrap(), 4);
+    });
+    fs::remove_dir_all(folder).unwrap();
+}
+
+#[test]
 fn a_first_store_that_fails_takes_no_folder() {
     let folder = fs::canonicalize(new_folder()).unwrap();
     let (first, second) = (pool_in(&folder), pool_in(&folder));
