@@ -77,6 +77,7 @@ impl<M: Manager> Shared<M> {
     pub fn write_journal(&self, out: &mut dyn Write) -> io::Result<u64> {
         let (text, entries) = self.copy_journal()?;
         out.write_all(&text)?;
+        out.flush()?;
         Ok(entries)
     }
 
@@ -166,6 +167,7 @@ impl<M: Manager> Shared<M> {
                 return Ok(written);
             }
             out.write_all(&text)?;
+            out.flush()?;
             self.lock().journal.drained = to;
             written += to - from;
         }

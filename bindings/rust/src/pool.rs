@@ -282,8 +282,8 @@ impl<M: Manager> Pool<M> {
     /// these [`settings`](Pool::settings). If entries were cut off before, or dropped, or handed to a sink, the text is a segment: it
     /// begins with the lines of the base that its entries continue. A segment that is cut off and not written yet is not part of it.
     ///
-    /// The text is copied first, under the lock for some hundred lines at a time; then it is written without the lock. Only a journal that
-    /// is cut again and again meanwhile is copied as a whole under the lock.
+    /// The text is copied first, under the lock for some hundred lines at a time; then it is written and flushed without the lock. Only a journal
+    /// that is cut again and again meanwhile is copied as a whole under the lock.
     ///
     /// # Errors
     ///
@@ -292,8 +292,8 @@ impl<M: Manager> Pool<M> {
         self.shared.write_journal(&mut out)
     }
 
-    /// Writes the entries of the journal that no drain has written and no [`cut`](Pool::cut) has taken, and returns their number. All that
-    /// drains write, one after the other, is the journal, if it is kept in memory and never cut. Entries that the pool drops or hands to a
+    /// Writes and flushes the entries of the journal that no drain has written and no [`cut`](Pool::cut) has taken, and returns their number. All
+    /// that drains write, one after the other, is the journal, if it is kept in memory and never cut. Entries that the pool drops or hands to a
     /// sink are left out. One drain of a pool runs at a time.
     ///
     /// Drained entries stay in memory, and take room as before, until they are cut off.

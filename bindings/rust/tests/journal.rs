@@ -11,7 +11,7 @@ use common::{
     assert_segments_legal, cut_off, entries_of, journal_of, judge_segments, new_folder,
     panic_quietly, panics, texts_of, MemorySink, Stored,
 };
-use std::io::{self, Write};
+use std::io::{self, BufWriter, Cursor, Write};
 use std::path::Path;
 use std::sync::atomic::{AtomicBool, AtomicU64, Ordering};
 use std::sync::{mpsc, Arc, Mutex};
@@ -27,6 +27,7 @@ with_and_without_hooks! {
     a_folder_has_the_segments_and_the_settings
     a_folder_that_fails_is_written_later
     the_last_handle_hands_over_the_rest
+    what_a_writer_still_holds_is_not_written
     a_drain_whose_writer_panics_is_continued
     a_writer_that_drains_what_is_drained_is_refused
     two_pools_in_one_folder_overwrite_nothing
@@ -457,6 +458,18 @@ fn the_last_handle_hands_over_the_rest<const HOOKS: bool>() {
     drop(held);
     let texts = texts_of(&stored);
     assert_eq!(judge_segments(&settings, &texts), "legal 7\n");
+}
+
+fn what_a_writer_still_holds_is_not_written<const HOOKS: bool>() {
+    let pool = kept().build(Numbers::<HOOKS>).unwrap();
+    pair(&pool);
+    // Nothing fits on its disk.
+    let full = || BufWriter::new(Cursor::new([0_u8; 0]));
+    assert!(pool.journal(full()).is_err());
+    assert!(pool.drain_journal(full()).is_err());
+    let mut drained = Vec::new();
+    assert_eq!(pool.drain_journal(&mut drained).unwrap(), 4);
+    assert_eq!(String::from_utf8(drained).unwrap(), journal_of(&pool));
 }
 
 /// A writer that panics once it has got some bytes.
