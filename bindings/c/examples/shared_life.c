@@ -80,7 +80,8 @@ static bool store(void *folder, uint64_t first, const char *text, size_t size) {
   int length = snprintf(unfinished, sizeof unfinished, "%s/unfinished-%ld", (const char *)folder, (long)getpid());
   int other = snprintf(finished, sizeof finished, "%s/segment-%020" PRIu64, (const char *)folder, first);
   if (length < 0 || (size_t)length >= sizeof unfinished || other < 0 || (size_t)other >= sizeof finished) return false;
-  int file = open(unfinished, O_WRONLY | O_CREAT | O_TRUNC, 0644);
+  unlink(unfinished); /* that of a process that crashed may be a segment by another name */
+  int file = open(unfinished, O_WRONLY | O_CREAT | O_EXCL, 0644);
   if (file < 0) return false;
   bool is_written = write_text(file, text, size);
   bool is_stored = close(file) == 0 && is_written && name_file(folder, unfinished, finished);
