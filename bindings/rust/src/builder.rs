@@ -285,7 +285,7 @@ impl<M: Manager> Builder<M> {
     ///
     /// # Errors
     ///
-    /// A number or a time is out of its range, settings contradict each other, or there is no memory.
+    /// A number or a time is out of its range, settings contradict each other, there is no memory, or the pool's own thread cannot be started.
     pub fn build(mut self, manager: M) -> Result<Pool<M>, OpenError> {
         Settings::from_toml(&self.settings.to_string())?;
         let (mode, journal_limit, outlet) = self.take_journal();
@@ -313,10 +313,14 @@ impl<M: Manager> Builder<M> {
             Some(clock) => Clock::Given(clock),
             None => Clock::Since(Instant::now()),
         };
-        let pool = Arc::new(Shared::new(state, clock, outlet, manager, policy));
+        let mut pool = Arc::new(Shared::new(state, clock, outlet, manager, policy));
         let is_maintained = self.maintenance.is_some();
         if let Some((start, time)) = self.maintenance {
-            let started = start(&pool, time).map_err(|error| OpenError::Thread(error.kind()))?;
+            let started = start(&pool, time).map_err(|error| {
+                // Nobody has had the pool, so its end stores nothing.
+                drop(Arc::get_mut(&mut pool).map(|pool| pool.outlet.take()));
+                OpenError::Thread(error.kind())
+            })?;
             *pool.maintainer() = Some(started);
         }
         Ok(Pool::of(Handle::new(pool, is_maintained)))

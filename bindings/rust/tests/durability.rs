@@ -1,4 +1,5 @@
-//! A folder of segments: the order in which it is synced and its files get their names, syncs that fail, two pools, and a relative path.
+//! A folder of segments: the order in which it is synced and its files get their names, syncs that fail, two pools, a relative path, and a pool that
+//! cannot be opened.
 
 #![cfg(all(target_env = "gnu", target_arch = "x86_64"))]
 
@@ -6,11 +7,13 @@ mod common;
 
 use common::managers::{pair, Numbers};
 use common::{assert_segments_legal, new_folder};
-use std::ffi::{c_char, c_int, c_long, CStr};
+use std::cell::Cell;
+use std::ffi::{c_char, c_int, c_long, c_void, CStr};
 use std::path::{Path, PathBuf};
 use std::sync::{Barrier, Mutex};
-use std::{env, fs, io, thread};
-use zuphinka::{Journal, Pool, Segments};
+use std::time::Duration;
+use std::{env, fs, io, mem, thread};
+use zuphinka::{Journal, OpenError, Pool, Segments};
 
 /// What was synced, and which files got and lost a name.
 static EVENTS: Mutex<Vec<String>> = Mutex::new(Vec::new());
@@ -18,13 +21,25 @@ static EVENTS: Mutex<Vec<String>> = Mutex::new(Vec::new());
 /// What cannot be synced: a folder, or all files of a folder, as `FOLDER/*`.
 static FAILING: Mutex<Vec<PathBuf>> = Mutex::new(Vec::new());
 
+thread_local! {
+    /// Whether this thread can start no other one.
+    static STARTS_NONE: Cell<bool> = const { Cell::new(false) };
+}
+
 const FSYNC: c_long = 74;
 const RENAME: c_long = 82;
 const UNLINK: c_long = 87;
 const LINKAT: c_long = 265;
 
+/// The library after this program that has a function.
+const NEXT: *mut c_void = usize::MAX as *mut c_void;
+
+/// The system has no resources for a thread.
+const EAGAIN: c_int = 11;
+
 extern "C" {
     fn syscall(number: c_long, ...) -> c_long;
+    fn dlsym(library: *mut c_void, name: *const c_char) -> *mut c_void;
 }
 
 fn note(event: String) {
@@ -87,6 +102,24 @@ unsafe extern "C" fn unlink(name: *const c_char) -> c_int {
         note_name("remove", name);
     }
     done
+}
+
+/// A function of the C library that starts a thread.
+type Create = unsafe extern "C" fn(*mut c_void, *mut c_void, *mut c_void, *mut c_void) -> c_int;
+
+#[no_mangle]
+unsafe extern "C" fn pthread_create(
+    thread: *mut c_void,
+    attributes: *mut c_void,
+    start: *mut c_void,
+    argument: *mut c_void,
+) -> c_int {
+    if STARTS_NONE.get() {
+        return EAGAIN;
+    }
+    let create = dlsym(NEXT, b"pthread_create\0".as_ptr().cast());
+    let create: Create = mem::transmute(create);
+    create(thread, attributes, start, argument)
 }
 
 /// The events since this was asked last, of paths in a folder. The numbers of unfinished files are left out.
@@ -244,4 +277,21 @@ fn a_relative_folder_is_the_same_after_the_current_one_changes() {
     fs::remove_dir_all(folder).unwrap();
     // Nothing is in it.
     fs::remove_dir(other).unwrap();
+}
+
+#[test]
+fn a_pool_that_gets_no_thread_takes_no_folder() {
+    let folder = fs::canonicalize(new_folder()).unwrap();
+    let segments = Segments::in_folder(&folder).unwrap();
+    let builder = Pool::builder().journal(Journal::Segments(segments));
+    let builder = builder.maintain_every(Duration::from_secs(3_600));
+    STARTS_NONE.set(true);
+    let refused = builder.build(Numbers::<true>).unwrap_err();
+    STARTS_NONE.set(false);
+    assert_eq!(refused, OpenError::Thread(io::ErrorKind::WouldBlock));
+    let pool = pool_in(&folder);
+    pair(&pool);
+    assert_eq!(pool.flush_journal().unwrap(), 4);
+    drop(pool);
+    fs::remove_dir_all(folder).unwrap();
 }
