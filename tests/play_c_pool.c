@@ -1893,6 +1893,56 @@ static void test_waits_for_a_store_end(void) {
   }
 }
 
+static atomic_int allowed;      /* calls of `store_when_allowed` that may end */
+static atomic_bool has_gone_on; /* the thread of `borrow_and_tell` */
+
+/* Fails at its first call. */
+static bool store_when_allowed(void *context, uint64_t first, const char *text, size_t size) {
+  struct maker *made = context;
+  (void)first, (void)text, (void)size;
+  int call = atomic_fetch_add(&made->sink.called, 1) + 1;
+  while (atomic_load(&allowed) < call) sleep_for(1);
+  return call > 1;
+}
+
+static void *cut_when_allowed(void *argument) {
+  struct waiter *waiter = argument;
+  waiter->error = zuphinka_pool_cut(waiter->pool, store_when_allowed, &maker, NULL);
+  return NULL;
+}
+
+static void *borrow_and_tell(void *argument) {
+  borrow_and_return(argument);
+  atomic_store(&has_gone_on, true);
+  return NULL;
+}
+
+/* A borrow that finds the journal full while another thread stores a segment goes on once the journal is cut, before the next one is stored. */
+static void test_goes_on_after_a_cut(void) {
+  struct zuphinka_pool *pool = open_stored(&maker, "journalLimit = 200\n", NULL, ZUPHINKA_POOL_JOURNAL_SEGMENTS);
+  struct waiter cutting = {.pool = pool}, waiter = {.pool = pool};
+  struct zuphinka_pool_loan loan = lend(pool);
+  give_back(pool, &loan);
+  atomic_store(&allowed, 1);
+  check_error(zuphinka_pool_cut(pool, store_when_allowed, &maker, NULL), ZUPHINKA_POOL_ERROR_STORE_FAILED);
+  loan = lend(pool);
+  give_back(pool, &loan);
+  check(pthread_create(&cutting.thread, NULL, cut_when_allowed, &cutting) == 0);
+  while (atomic_load(&maker.sink.called) < 2) sleep_for(1);
+  check_error(fill_journal(pool), ZUPHINKA_POOL_ERROR_JOURNAL_FULL);
+  check(pthread_create(&waiter.thread, NULL, borrow_and_tell, &waiter) == 0);
+  sleep_for(10);
+  atomic_store(&allowed, 2);
+  while (atomic_load(&maker.sink.called) < 3) sleep_for(1);
+  for (int64_t end = milliseconds_now() + LONG / 6; !atomic_load(&has_gone_on) && milliseconds_now() < end;) sleep_for(1);
+  bool goes_on = atomic_load(&has_gone_on);
+  atomic_store(&allowed, 3);
+  join(&cutting, 1, ZUPHINKA_POOL_ERROR_NONE);
+  join(&waiter, 1, ZUPHINKA_POOL_ERROR_NONE);
+  check(goes_on);
+  end_pool(pool);
+}
+
 /* A store that calls the pool. */
 static bool store_and_borrow(void *context, uint64_t first, const char *text, size_t size) {
   (void)first, (void)text, (void)size;
@@ -3003,6 +3053,7 @@ static const struct {
     TEST(failed_object_keeps_the_turn),
     TEST(slow_store),
     TEST(waits_for_a_store_end),
+    TEST(goes_on_after_a_cut),
     TEST(store_that_borrows),
     TEST(forked),
     TEST(forked_in_a_store),

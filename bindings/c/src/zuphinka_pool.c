@@ -177,6 +177,7 @@ static uint32_t cut_off(struct zuphinka_pool *pool, struct change *change) {
   uint32_t status = change ? zuphinka_reconfigure(&pool->core, change->text, change->length) : zuphinka_cut(&pool->core);
   if (status != ZUPHINKA_STATUS_DONE) return status;
   pool->cuts++;
+  wake(&pool->conditions[CUT]);
   if (!change) return status;
   change->is_made = true;
   change->first = look(pool).counts.steps;
@@ -259,10 +260,11 @@ static void keep_room(struct zuphinka_pool *pool, struct run *run) {
   lock(pool);
 }
 
-/* Sleeps while another thread cuts the journal, until `end` at most, with the lock held before and after. Returns whether none cuts any more. */
-static bool wait_for_cut(struct zuphinka_pool *pool, int64_t end) {
+/* Sleeps while another thread cuts the journal or stores what was cut off, until it was cut more than `cuts` times, and until `end` at most. The lock
+ * is held before and after. Returns whether no thread cuts any more. */
+static bool wait_for_cut(struct zuphinka_pool *pool, uint64_t cuts, int64_t end) {
   bool may_wait = pool->cutter != UINT64_C(1) + zuphinka_pool_caller();
-  while (pool->cutter && may_wait) may_wait = sleep_on(&pool->conditions[CUT], &pool->lock, end);
+  while (pool->cutter && pool->cuts <= cuts && may_wait) may_wait = sleep_on(&pool->conditions[CUT], &pool->lock, end);
   return !pool->cutter;
 }
 
@@ -270,7 +272,8 @@ static bool wait_for_cut(struct zuphinka_pool *pool, int64_t end) {
 static uint32_t make_room(struct zuphinka_pool *pool, const struct run *run) {
   uint64_t cuts = pool->cuts;
   if (pool->journal != ZUPHINKA_POOL_JOURNAL_SEGMENTS) return ZUPHINKA_REPORT_NO_ROOM;
-  if (wait_for_cut(pool, end_of_wait(run)) && pool->cuts == cuts) cut_and_store(pool, pool->host.store, pool->host.context, NULL, NULL);
+  bool has_turn = wait_for_cut(pool, cuts, end_of_wait(run)) && pool->cuts == cuts;
+  if (has_turn) cut_and_store(pool, pool->host.store, pool->host.context, NULL, NULL);
   return pool->cuts != cuts ? ZUPHINKA_REPORT_ROOM_MADE : ZUPHINKA_REPORT_NO_ROOM;
 }
 
@@ -496,7 +499,8 @@ void zuphinka_pool_counts(struct zuphinka_pool *pool, struct zuphinka_tally *cou
 enum zuphinka_pool_error zuphinka_pool_cut(struct zuphinka_pool *pool, zuphinka_pool_store *store, void *context, uint64_t *entries) {
   if (entries) *entries = 0;
   lock(pool);
-  enum zuphinka_pool_error error = wait_for_cut(pool, NEVER) ? cut_and_store(pool, store, context, entries, NULL) : ZUPHINKA_POOL_ERROR_IN_USE;
+  bool has_turn = wait_for_cut(pool, UINT64_MAX, NEVER);
+  enum zuphinka_pool_error error = has_turn ? cut_and_store(pool, store, context, entries, NULL) : ZUPHINKA_POOL_ERROR_IN_USE;
   unlock(pool);
   return error;
 }
@@ -517,7 +521,7 @@ enum zuphinka_pool_error zuphinka_pool_reconfigure(struct zuphinka_pool *pool, c
   change.quarter = setup.journal_limit / 4;
   lock(pool);
   if (pool->journal == ZUPHINKA_POOL_JOURNAL_OFF) error = find_error(ZUPHINKA_END_NONE, cut_off(pool, &change));
-  else if (wait_for_cut(pool, NEVER)) error = cut_and_store(pool, store, context, NULL, &change);
+  else if (wait_for_cut(pool, UINT64_MAX, NEVER)) error = cut_and_store(pool, store, context, NULL, &change);
   else error = ZUPHINKA_POOL_ERROR_IN_USE;
   unlock(pool);
   if (change.is_made && first) *first = change.first;

@@ -159,6 +159,11 @@ impl<T> LockedPool<T> {
         self.journal.cut(room);
     }
 
+    /// Returns whether the journal has room for any call.
+    pub fn has_room(&mut self) -> bool {
+        self.core.room() >= self.setup.settings.least_room()
+    }
+
     /// Returns the position of the first stored entry. Positions count from the first entry since the pool was opened.
     pub fn first_stored(&mut self) -> u64 {
         self.core.counts().steps - self.core.steps()

@@ -56,10 +56,10 @@ impl<M: Manager> Policy<M> {
 
 /// A pool. The manager is called without the lock.
 pub(crate) struct Shared<M: Manager> {
-    state: Locked<LockedPool<M::Object>>,
+    pub state: Locked<LockedPool<M::Object>>,
     oldest_asleep: Arc<OldestSleeper>,
     clock: Clock,
-    /// A thread that cut the journal is done.
+    /// The journal was cut, or the thread that cut it is done.
     pub written: Condvar,
     /// Held by a thread that drains the journal. It may take the lock of the state.
     pub draining: Mutex<()>,
@@ -267,14 +267,5 @@ impl<M: Manager> Shared<M> {
             }
         }
         self.lock()
-    }
-
-    /// Sleeps until a thread that cut the journal is done, and no longer than a time.
-    pub fn wait_for_writer<'a>(
-        &'a self,
-        state: Held<'a, M>,
-        longest: Option<Duration>,
-    ) -> Held<'a, M> {
-        self.state.wait(state, &self.written, longest)
     }
 }

@@ -2,6 +2,7 @@
 
 use crate::failure::Failure;
 use crate::journal::copy_lines;
+use crate::locked_pool::LockedPool;
 use crate::manager::Manager;
 use crate::panics::unless_it_panics;
 use crate::proved_core::Core;
@@ -63,13 +64,14 @@ impl<M: Manager> Drop for Turn<'_, M> {
 }
 
 impl<M: Manager> Shared<M> {
-    /// Takes the turn to cut the journal, and waits for the thread that has it, as far as the limit and the settings allow.
-    pub fn take_turn<'a>(
+    /// Waits until no other thread cuts the journal, or until there is enough, as far as the limit and the settings allow.
+    fn wait_for_turn<'a>(
         &'a self,
         mut state: Held<'a, M>,
         limit: Option<Instant>,
-    ) -> Option<Turn<'a, M>> {
-        while state.journal.writer.is_some() {
+        is_enough: fn(&mut LockedPool<M::Object>) -> bool,
+    ) -> Option<Held<'a, M>> {
+        while state.journal.writer.is_some() && !is_enough(&mut state) {
             if state.journal.is_written_by_this_thread() {
                 return None;
             }
@@ -77,8 +79,18 @@ impl<M: Manager> Shared<M> {
             if left == Some(Duration::ZERO) {
                 return None;
             }
-            state = self.wait_for_writer(state, left);
+            state = self.state.wait(state, &self.written, left);
         }
+        Some(state)
+    }
+
+    /// Takes the turn to cut the journal, and waits for the thread that has it, as far as the limit and the settings allow.
+    pub fn take_turn<'a>(
+        &'a self,
+        state: Held<'a, M>,
+        limit: Option<Instant>,
+    ) -> Option<Turn<'a, M>> {
+        let mut state = self.wait_for_turn(state, limit, |_| false)?;
         state.journal.writer = Some(thread::current().id());
         Some(Turn {
             pool: self,
@@ -167,6 +179,7 @@ impl<M: Manager> Shared<M> {
                 turn.unwritten = Some(segment);
             }
         }
+        self.written.notify_all();
         Ok(position + entries)
     }
 
@@ -241,21 +254,17 @@ impl<M: Manager> Shared<M> {
         };
         let before = state.first_stored();
         let end = end_of_wait(limit, state.setup.settings.max_wait_millis);
-        let Some(turn) = self.take_turn(state, end) else {
+        let Some(mut state) = self.wait_for_turn(state, end, LockedPool::has_room) else {
             return false;
         };
-        match self.has_room() {
-            true => drop(turn),
-            false => self.write_and_report(turn, outlet),
+        if state.has_room() {
+            return true;
         }
-        let first = self.lock().first_stored();
-        first != before || self.has_room()
-    }
-
-    /// Returns whether there is room for any call.
-    fn has_room(&self) -> bool {
+        if let Some(turn) = self.take_turn(state, end) {
+            self.write_and_report(turn, outlet);
+        }
         let mut state = self.lock();
-        state.core.room() >= state.setup.settings.least_room()
+        state.first_stored() != before || state.has_room()
     }
 
     /// Writes a segment, and reports that this failed once others may cut the journal.

@@ -46,6 +46,7 @@ with_and_without_hooks! {
     others_continue_while_a_segment_is_written
     a_reclaim_waits_for_a_segment_as_long_as_its_borrow_may
     a_borrow_waits_for_a_segment_no_longer_than_is_set
+    a_borrow_that_waits_for_a_segment_goes_on_once_there_is_room
     others_continue_while_a_cut_is_written
 }
 
@@ -314,6 +315,39 @@ fn a_borrow_waits_for_a_segment_no_longer_than_is_set<const HOOKS: bool>() {
         let answer = writing.join().unwrap();
         assert_eq!(answer, Ok(Err(Error::JournalFull)), "it waited for it");
     });
+}
+
+fn a_borrow_that_waits_for_a_segment_goes_on_once_there_is_room<const HOOKS: bool>() {
+    let (slow, is_called, go_on) = Slow::new();
+    let mut is_first = true;
+    // The first segment is stored at the second try.
+    let fails = move || {
+        let fails = mem::take(&mut is_first);
+        if !fails {
+            slow.wait();
+        }
+        fails
+    };
+    let (pool, stored) = pool_with_sink::<HOOKS>(|segments| segments, fails);
+    pair(&pool);
+    assert!(pool.flush_journal().is_err());
+    let (answer, is_answered) = mpsc::channel();
+    thread::scope(|scope| {
+        scope.spawn(|| pool.flush_journal().unwrap());
+        is_called.recv().unwrap();
+        let hasty = std::iter::repeat_with(|| pool.try_get().map(drop)).find_map(Result::err);
+        assert_eq!(hasty, Some(Error::JournalFull));
+        scope.spawn(|| answer.send(pool.get_timeout(LONGEST).map(drop)));
+        thread::sleep(Duration::from_millis(10));
+        // Then the journal is cut, and the next segment is not stored for a while.
+        go_on.send(()).unwrap();
+        is_called.recv().unwrap();
+        let answer = is_answered.recv_timeout(LONGEST / 4);
+        drop(go_on);
+        assert_eq!(answer, Ok(Ok(())), "it waits for the next segment");
+    });
+    pool.flush_journal().unwrap();
+    assert_segments_legal(&pool, &texts_of(&stored));
 }
 
 fn others_continue_while_a_cut_is_written<const HOOKS: bool>() {
