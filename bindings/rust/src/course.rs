@@ -171,7 +171,10 @@ impl<M: Manager> Course<M> {
             }
         }
         state.care_for_journal();
-        pool.leave(state, wakes);
+        match self.call.action() {
+            Action::Done(End::Lent) => pool.leave_with_loan(state, wakes),
+            _ => pool.leave(state, wakes),
+        }
         if let Some(waker) = waker {
             drop_quietly(waker);
         }

@@ -29,9 +29,9 @@ pub enum Journal {
     /// [`Pool::flush_journal`](crate::Pool::flush_journal) and [`Pool::reconfigure`](crate::Pool::reconfigure), and when the last handle and the
     /// last lent object are gone.
     ///
-    /// The call that uses up the half stores the segment before it returns, without the lock: a borrow, a poll of
-    /// [`Pool::get_async`](crate::Pool::get_async), or a return. Other calls continue meanwhile. If they use up the rest, those that need room
-    /// wait for the segment.
+    /// The call that uses up the half stores the segment before it returns, without the lock: a return, a poll of
+    /// [`Pool::get_async`](crate::Pool::get_async), or a borrow that has to wait. One that lends an object leaves this to the next call. Other calls
+    /// continue meanwhile. If they use up the rest, those that need room wait for the segment.
     Segments(Segments),
 }
 

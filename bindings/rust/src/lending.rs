@@ -61,7 +61,7 @@ impl<M: Manager> Shared<M> {
             Some(loan) => {
                 let mut wakes = Wakes::default();
                 wakes.push(state.next_wake());
-                self.leave(state, wakes);
+                self.leave_with_loan(state, wakes);
                 Ok(loan)
             }
             None => Err(state),
@@ -86,7 +86,7 @@ impl<M: Manager> Shared<M> {
         course.start(&mut state);
         if let Some(loan) = course.take_lent(&mut state) {
             state.care_for_journal();
-            self.leave(state, course.wakes());
+            self.leave_with_loan(state, course.wakes());
             return Ok(loan);
         }
         let mut call = InProgress::begun(self, state, course, None);

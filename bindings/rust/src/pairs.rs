@@ -137,7 +137,7 @@ impl<M: Manager> Shared<M> {
         }
         state.measures.waits.count(began.nanos, at.nanos);
         state.care_for_journal();
-        self.leave(state, Wakes::default());
+        self.leave_with_loan(state, Wakes::default());
         loan.object = loan.object.lent_at(at);
         loan
     }

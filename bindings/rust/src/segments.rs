@@ -41,7 +41,7 @@ pub struct Segment<'a> {
 /// }
 /// ```
 pub trait SegmentSink: Send {
-    /// Stores a segment. Segments come one at a time and in their order, each from the thread whose call found the journal's room low,
+    /// Stores a segment. Segments come one at a time and in their order, each from a thread whose call found the journal's room low,
     /// and without the pool's lock. That call returns once this does; others continue, as long as there is room.
     ///
     /// # Errors

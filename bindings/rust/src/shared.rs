@@ -214,12 +214,18 @@ impl<M: Manager> Shared<M> {
     #[inline]
     pub fn leave(&self, state: Held<'_, M>, wakes: Wakes) {
         let is_due = state.journal.wants_writer();
+        self.leave_with_loan(state, wakes);
+        if is_due {
+            self.write_due();
+        }
+    }
+
+    /// Does the same with an object that is lent from now on: its holder gets it at once, and a later call writes the segment.
+    #[inline]
+    pub fn leave_with_loan(&self, state: Held<'_, M>, wakes: Wakes) {
         match wakes.is_empty() {
             true => drop(state),
             false => self.wake(state, wakes),
-        }
-        if is_due {
-            self.write_due();
         }
     }
 

@@ -47,6 +47,7 @@ with_and_without_hooks! {
     a_reclaim_waits_for_a_segment_as_long_as_its_borrow_may
     a_borrow_waits_for_a_segment_no_longer_than_is_set
     a_borrow_that_waits_for_a_segment_goes_on_once_there_is_room
+    a_loan_does_not_begin_before_a_segment_is_stored
     others_continue_while_a_cut_is_written
 }
 
@@ -348,6 +349,36 @@ fn a_borrow_that_waits_for_a_segment_goes_on_once_there_is_room<const HOOKS: boo
     });
     pool.flush_journal().unwrap();
     assert_segments_legal(&pool, &texts_of(&stored));
+}
+
+fn a_loan_does_not_begin_before_a_segment_is_stored<const HOOKS: bool>() {
+    /// Stores each segment in a second of this time.
+    struct Seconds(Arc<AtomicU64>);
+    impl SegmentSink for Seconds {
+        fn store(&mut self, _segment: &Segment<'_>) -> io::Result<()> {
+            self.0.fetch_add(1_000, Ordering::SeqCst);
+            Ok(())
+        }
+    }
+    // So a segment is due after each step of a loan in turn.
+    for limit in 60..70 {
+        let time = Arc::new(AtomicU64::new(0));
+        let sink = Seconds(Arc::clone(&time));
+        let told = Arc::clone(&time);
+        let abandoned = Abandoned::new().on_maintenance(true);
+        let pool = Pool::builder()
+            .journal(Journal::Segments(Segments::new(sink).limit(limit)))
+            .abandoned(abandoned.timeout(Duration::from_millis(500)))
+            .clock(move || told.load(Ordering::SeqCst))
+            .build(Numbers::<HOOKS>)
+            .unwrap();
+        for _ in 0..100 {
+            let held = pool.get().unwrap();
+            assert_eq!(pool.reclaim(), Ok(0));
+            drop(held);
+        }
+        assert!(time.load(Ordering::SeqCst) > 10_000);
+    }
 }
 
 fn others_continue_while_a_cut_is_written<const HOOKS: bool>() {
