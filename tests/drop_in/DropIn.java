@@ -174,6 +174,36 @@ public final class DropIn extends Expectations {
         }
     }
 
+    /** Says that there is no object to make. */
+    private static final class NoneLeft extends NoSuchElementException {
+        private static final long serialVersionUID = 1;
+    }
+
+    /** What makes an object may throw what a borrow throws that gets none: it is thrown as it is, with its kind and its stack. */
+    private static void failingMake() {
+        NoSuchElementException nameless = new NoSuchElementException();
+        for (NoSuchElementException failure : List.of(new NoneLeft(), new NoSuchElementException("make"), nameless)) {
+            GenericObjectPool<Object> pool = pool(new Counted() {
+                @Override
+                public Object create() {
+                    throw failure;
+                }
+            });
+            expect("what is thrown for " + failure, failure, thrownBy(pool));
+            pool.setMessagesStatistics(true);
+            expect("what is thrown with statistics for " + failure, failure, thrownBy(pool));
+            pool.close();
+        }
+    }
+
+    private static Object thrownBy(GenericObjectPool<Object> pool) {
+        try {
+            return pool.borrowObject();
+        } catch (Exception e) {
+            return e;
+        }
+    }
+
     /** What a factory throws is thrown, also if the pool is closed meanwhile. */
     private static void closedWhileMaking() {
         List<GenericObjectPool<Object>> pools = new ArrayList<>();
@@ -276,6 +306,7 @@ public final class DropIn extends Expectations {
         }
         freeSettings();
         closedWhileWaiting();
+        failingMake();
         closedWhileMaking();
         failingRun();
         unmade();

@@ -26,6 +26,10 @@ import org.apache.commons.pool2.UsageTracking;
  */
 public class GenericObjectPool<T> extends BaseGenericObjectPool<T> implements ObjectPool<T>, GenericObjectPoolMXBean, UsageTracking<T> {
     private static final String BEAN_BASE = "org.apache.commons.pool2:type=GenericObjectPool,name=";
+    private static final String TIMEOUT = "Timeout waiting for idle object";
+    /** The messages of borrows that got no object. */
+    private static final Set<String> MESSAGES = Set.of("Pool exhausted", TIMEOUT, "Unable to activate object", "Unable to validate object");
+
     private final PooledObjectFactory<T> factory;
     private final CountedFactory<T> counted;
     private final ProvedPool<T> pool;
@@ -139,11 +143,15 @@ public class GenericObjectPool<T> extends BaseGenericObjectPool<T> implements Ob
         }
     }
 
-    /** Returns the exception of a borrow that got no object, with the message of the library. */
+    /** Returns the exception of a borrow that got no object, with the message of the library. What {@code makeObject} threw is returned as it is. */
     private NoSuchElementException none(NoSuchElementException failure, Duration longest) {
-        boolean isOver = failure.getMessage() != null && failure.getMessage().equals("Timeout waiting for idle object");
-        String message = isOver ? failure.getMessage() + ", borrowMaxWaitDuration=" + longest : failure.getMessage();
-        NoSuchElementException told = new NoSuchElementException(appendStats(message));
+        String given = String.valueOf(failure.getMessage());
+        String message = appendStats(given.equals(TIMEOUT) ? given + ", borrowMaxWaitDuration=" + longest : given);
+        boolean isOwn = failure.getClass() == NoSuchElementException.class && MESSAGES.contains(given);
+        if (!isOwn || message.equals(given)) {
+            return failure;
+        }
+        NoSuchElementException told = new NoSuchElementException(message);
         told.initCause(failure.getCause());
         return told;
     }
