@@ -22,6 +22,7 @@ import org.apache.commons.pool2.impl.GenericObjectPoolConfig;
 public final class DropIn extends Expectations {
     private static final int THREADS = 4;
     private static final int ROUNDS = 1_000;
+    private static final long SMALL_STACK = 300_000;
 
     private DropIn() {}
 
@@ -243,6 +244,86 @@ public final class DropIn extends Expectations {
         pool.close();
     }
 
+    /** A close has no effect while another thread closes the pool, which may wait for it. */
+    private static void closedByTwo() throws Exception {
+        List<GenericObjectPool<Object>> pools = new ArrayList<>();
+        List<Object> endings = new ArrayList<>();
+        pools.add(pool(new Counted() {
+            @Override
+            public void destroyObject(PooledObject<Object> pooled, DestroyMode mode) {
+                super.destroyObject(pooled, mode);
+                endings.add(within(begun(() -> ending(pools.get(0)::close))));
+            }
+        }));
+        pools.get(0).addObject();
+        pools.get(0).close();
+        expect("a close for which another one waits", List.of("done"), endings);
+    }
+
+    private static String state(GenericObjectPool<?> pool) {
+        boolean isRegistered = ManagementFactory.getPlatformMBeanServer().isRegistered(pool.getJmxName());
+        return (pool.isClosed() ? "closed, " : "open, ") + (isRegistered ? "registered" : "not registered");
+    }
+
+    /** A close that ends in an error of the factory is complete. */
+    private static void failingClose() throws Exception {
+        Counted factory = new Counted() {
+            @Override
+            public void destroyObject(PooledObject<Object> pooled, DestroyMode mode) {
+                super.destroyObject(pooled, mode);
+                throw new NoClassDefFoundError("destroy");
+            }
+        };
+        GenericObjectPool<Object> pool = new GenericObjectPool<>(factory);
+        pool.addObject();
+        pool.addObject();
+        expect("before a close that ends in an error", "open, registered", state(pool));
+        expect("a close that ends in an error", "NoClassDefFoundError: destroy", ending(pool::close));
+        expect("after it", "closed, not registered", state(pool));
+        expect("alive after it", 0, factory.alive.get());
+    }
+
+    /** Closes a pool in the first frame whose stack is too full for that. */
+    private static final class Diver implements Runnable {
+        private final GenericObjectPool<Object> pool;
+        private Object ending;
+
+        Diver(GenericObjectPool<Object> pool) {
+            this.pool = pool;
+        }
+
+        @Override
+        public void run() {
+            if (result(pool::getNumIdle) instanceof Integer) {
+                run();
+            } else {
+                ending = ending(pool::close);
+            }
+        }
+    }
+
+    /** A close that a full stack refuses ends nothing. The classes of the timer are loaded before. */
+    private static void refusedClose() throws Exception {
+        GenericObjectPool<Object> first = pool(new Counted());
+        first.setTimeBetweenEvictionRuns(Duration.ofMillis(1));
+        first.close();
+        Counted factory = new Counted();
+        GenericObjectPool<Object> pool = new GenericObjectPool<>(factory);
+        pool.setTimeBetweenEvictionRuns(Duration.ofMillis(1));
+        Diver diver = new Diver(pool);
+        Thread thread = new Thread(null, diver, "diver", SMALL_STACK);
+        thread.start();
+        thread.join();
+        expect("a close with a full stack", "StackOverflowError: zuphinka: too little stack", diver.ending);
+        expect("after it", "open, registered", state(pool));
+        pool.setMinIdle(1);
+        until(() -> pool.getNumIdle() == 1);
+        expect("its timer", 1, pool.getNumIdle());
+        pool.close();
+        expect("a later close", "closed, not registered", state(pool));
+        expect("alive after that", 0, factory.alive.get());
+    }
+
     private static void closedWhileWaiting() throws Exception {
         GenericObjectPool<Object> pool = pool(new Counted());
         pool.setMaxTotal(1);
@@ -306,6 +387,9 @@ public final class DropIn extends Expectations {
         }
         freeSettings();
         closedWhileWaiting();
+        closedByTwo();
+        failingClose();
+        refusedClose();
         failingMake();
         closedWhileMaking();
         failingRun();

@@ -284,18 +284,38 @@ public class GenericObjectPool<T> extends BaseGenericObjectPool<T> implements Ob
 
     /**
      * Closes the pool: nothing is lent any more, waiting borrows end, and idle objects are destroyed. Lent ones are destroyed when they are returned. It
-     * ends the eviction timer and unregisters the MBean. A second close has no effect.
+     * ends the eviction timer and unregisters the MBean, also if the factory throws an {@link Error}. A second close has no effect, and does not wait for
+     * the first.
+     *
+     * @throws StackOverflowError if the thread has less than 120 KiB of its stack left; the pool is open, and may be closed later
      */
     @Override
     public void close() {
+        if (isClosed()) {
+            return;
+        }
         synchronized (closeLock) {
-            if (isClosed()) {
-                return;
+            if (!isClosed()) {
+                closeOnce();
             }
-            stopEvictor();
-            closed = true;
+        }
+    }
+
+    private void closeOnce() {
+        stopEvictor();
+        closed = true;
+        try {
             pool.close();
-            jmxUnregister();
+        } catch (Throwable e) {
+            closed = false; // before a call that may find the stack full again
+            closed = pool.isClosed();
+            throw e;
+        } finally {
+            if (closed) {
+                jmxUnregister();
+            } else {
+                setTimeBetweenEvictionRuns(getDurationBetweenEvictionRuns()); // starts the timer again
+            }
         }
     }
 
