@@ -120,6 +120,29 @@ public final class DropIn extends Expectations {
         pool.close();
     }
 
+    /** {@code setConfig} changes all settings at once, also for a thread that calls the pool while they are set. */
+    private static void settingsAtOnce() throws Exception {
+        GenericObjectPool<Object> pool = pool(new Counted());
+        pool.setMaxTotal(1);
+        pool.borrowObject();
+        List<Object> meanwhile = new ArrayList<>();
+        GenericObjectPoolConfig<Object> config = new GenericObjectPoolConfig<>() {
+            @Override
+            public int getMaxIdle() {
+                meanwhile.add(within(begun(() -> pool.borrowObject(Duration.ofMillis(1)))));
+                return super.getMaxIdle();
+            }
+        };
+        config.setMaxTotal(2);
+        config.setBlockWhenExhausted(false);
+        pool.setConfig(config);
+        expect("a borrow while all settings are set",
+                List.of("NoSuchElementException: Timeout waiting for idle object, borrowMaxWaitDuration=PT0.001S"), meanwhile);
+        pool.borrowObject();
+        expect("a borrow after that", "NoSuchElementException: Pool exhausted", result(pool::borrowObject));
+        pool.close();
+    }
+
     /** Settings that the pool cannot have: calls that borrow throw that, and others go on with the settings before. */
     private static void refused() throws Exception {
         GenericObjectPool<Object> pool = pool(new Counted());
@@ -382,6 +405,7 @@ public final class DropIn extends Expectations {
         expect("where the class is from", words[0], place.replaceAll(".*/", ""));
         changedLimit();
         servedWaiters();
+        settingsAtOnce();
         if (System.getProperty("zuphinka.journals") != null) {
             refused();
         }

@@ -327,11 +327,12 @@ public class GenericObjectPool<T> extends BaseGenericObjectPool<T> implements Ob
      * @param conf the settings; not null. They are copied
      */
     public void setConfig(GenericObjectPoolConfig<T> conf) {
-        super.setConfig(conf);
-        setMaxIdle(conf.getMaxIdle());
-        setMinIdle(conf.getMinIdle());
-        setMaxTotal(conf.getMaxTotal());
-        pool.updateQuietly();
+        pool.setAll(() -> {
+            super.setConfig(conf);
+            setMaxIdle(conf.getMaxIdle());
+            setMinIdle(conf.getMinIdle());
+            setMaxTotal(conf.getMaxTotal());
+        });
     }
 
     /**

@@ -19,6 +19,8 @@ final class ProvedPool<T> extends ZuphinkaPool<T> {
     private volatile AbandonedConfig abandoned;
     /** How many objects were destroyed when the owner was last shown for what. */
     private volatile long shownDestroyed;
+    /** How many threads set all settings of the owner, of which none is taken over meanwhile. */
+    private int setters;
 
     ProvedPool(GenericObjectPool<T> owner, CountedFactory<T> factory) {
         super(factory, settingsOf(owner), null, journal());
@@ -92,7 +94,25 @@ final class ProvedPool<T> extends ZuphinkaPool<T> {
         }
     }
 
+    /** Sets all settings of the owner, and takes them over as one change. */
+    void setAll(Runnable setter) {
+        addSetters(1);
+        try {
+            setter.run();
+        } finally {
+            addSetters(-1);
+        }
+        updateQuietly();
+    }
+
+    private synchronized void addSetters(int more) {
+        setters += more;
+    }
+
     private synchronized void takeOver() {
+        if (setters > 0) {
+            return;
+        }
         AbandonedConfig latest = owner.abandonedConfig;
         reconfigure(settingsOf(owner), latest);
         abandoned = latest;
