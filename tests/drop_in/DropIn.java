@@ -180,6 +180,25 @@ public final class DropIn extends Expectations {
         expect("alive", 0, factory.alive.get());
     }
 
+    /** A borrow that has no memory to note its times has lent its object all the same. */
+    private static void noMemoryForTimes() throws Exception {
+        GenericObjectPool<Object> pool = pool(new Counted() {
+            @Override
+            public PooledObject<Object> wrap(Object object) {
+                return new DefaultPooledObject<>(object) {
+                    @Override
+                    public Duration getIdleDuration() {
+                        throw new OutOfMemoryError("times");
+                    }
+                };
+            }
+        });
+        Object lent = result(pool::borrowObject);
+        expect("a borrow without memory for its times", "done", ending(() -> pool.returnObject(lent)));
+        expect("after its return", "1 idle, 0 active, 1 created, 0 destroyed, 1 borrowed, 1 returned", numbers(pool));
+        pool.close();
+    }
+
     /** A pool that cannot be made leaves no MBean. */
     private static void unmade() throws Exception {
         MBeanServer server = ManagementFactory.getPlatformMBeanServer();
@@ -417,6 +436,7 @@ public final class DropIn extends Expectations {
         failingMake();
         closedWhileMaking();
         failingRun();
+        noMemoryForTimes();
         unmade();
         changedByThreads();
         printCounts();

@@ -114,7 +114,7 @@ public class GenericObjectPool<T> extends BaseGenericObjectPool<T> implements Ob
         pool.update();
         try {
             T object = pool.borrowObject(borrowMaxWaitDuration);
-            noteLoan(pool.wrapperOf(object), System.nanoTime() - first);
+            noteLoan(object, System.nanoTime() - first);
             return object;
         } catch (NoSuchElementException e) {
             throw none(e, borrowMaxWaitDuration);
@@ -136,10 +136,15 @@ public class GenericObjectPool<T> extends BaseGenericObjectPool<T> implements Ob
         return borrowObject(Duration.ofMillis(borrowMaxWaitMillis));
     }
 
-    /** Counts a loan, unless its object was reclaimed at once. */
-    private void noteLoan(PooledObject<T> pooled, long nanos) {
-        if (pooled != null) {
-            updateStatsBorrow(pooled, Duration.ofNanos(nanos));
+    /** Counts a loan, unless its object was reclaimed at once. If there is no memory its times are missing: the caller is to have the object. */
+    private void noteLoan(T object, long nanos) {
+        try {
+            PooledObject<T> pooled = pool.wrapperOf(object);
+            if (pooled != null) {
+                updateStatsBorrow(pooled, Duration.ofNanos(nanos));
+            }
+        } catch (OutOfMemoryError e) {
+            // The object is lent.
         }
     }
 

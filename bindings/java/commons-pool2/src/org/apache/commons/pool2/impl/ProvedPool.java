@@ -144,16 +144,24 @@ final class ProvedPool<T> extends ZuphinkaPool<T> {
         }
     }
 
-    /** Shows the owner how many objects were destroyed by eviction runs and for failed tests of borrows, if any were since this was last done. */
+    /**
+     * Shows the owner how many objects were destroyed by eviction runs and for failed tests of borrows, if any were since this was last done. If there is
+     * no memory or stack for that, the next call does it.
+     */
     void showCounts() {
-        if (owner.destroyedCount.get() != shownDestroyed) {
-            showChangedCounts();
+        try {
+            if (owner.destroyedCount.get() != shownDestroyed) {
+                showChangedCounts();
+            }
+        } catch (OutOfMemoryError | StackOverflowError e) {
+            // The call whose end this is has lent an object.
         }
     }
 
     private synchronized void showChangedCounts() {
-        shownDestroyed = owner.destroyedCount.get();
+        long destroyed = owner.destroyedCount.get();
         owner.destroyedByEvictorCount.set(getDestroyedByEvictorCount());
         owner.destroyedByBorrowValidationCount.set(getDestroyedByBorrowValidationCount());
+        shownDestroyed = destroyed;
     }
 }
