@@ -56,7 +56,7 @@ MISTAKES = (
     Mistake("another minimum", "CoreSettings", "Math.max(0, config.getMinIdle())", "Math.max(1, config.getMinIdle())"),
     Mistake("one limit for another", "CoreSettings", "config.getSoftMinEvictableIdleDuration()", "config.getMinEvictableIdleDuration()"),
     Mistake("abandoned objects stay lent", "ZuphinkaPool", "if (settings.reclaimsOnMaintenance) {", "if (work == null) {"),
-    Mistake("a failure is not told", "Sections", "work.swallow(isReturned ? member.fault : null);", ""),
+    Mistake("a failure is not told", "Sections", "work.swallow(reason == thrown ? null : reason);", ""),
     Mistake("an interrupt is passed over", "Ends", "Thread.interrupted() ||", "call == null ||"),
     Mistake("uses are not noted", "ZuphinkaPool", "        sections.make(Core.KIND_TOUCH, member);\n", ""),
 )

@@ -450,6 +450,37 @@ public final class Calls extends Expectations {
         write(pool);
     }
 
+    /** Failures of one object are told in the order in which they came, except the first error, which is thrown. */
+    private static void orderOfFailures() throws Exception {
+        GenericObjectPoolConfig<String> config = config();
+        config.setTestWhileIdle(true);
+        Texts texts = new Texts();
+        Noting pool = new Noting(texts, config, null);
+        String lent = pool.borrowObject();
+        texts.passivates = new IOException("passivate");
+        texts.destroys = new IOException("destroy");
+        pool.returnObject(lent);
+        expect("failures of a return", List.of(texts.passivates, texts.destroys), pool.noted);
+        StackOverflowError error = new StackOverflowError("error");
+        for (boolean isFirst : new boolean[] {false, true}) {
+            texts.passivates = null;
+            String other = pool.borrowObject();
+            texts.passivates = isFirst ? error : new IOException("passivate");
+            texts.destroys = isFirst ? new IOException("destroy") : error;
+            pool.noted.clear();
+            expect("a return that ends in an error", "StackOverflowError: error", ending(() -> pool.returnObject(other)));
+            expect("its other failure", List.of(isFirst ? texts.destroys : texts.passivates), pool.noted);
+        }
+        texts.passivates = null;
+        pool.addObject();
+        pool.noted.clear();
+        texts.validates = new IllegalArgumentException("test");
+        pool.evict();
+        expect("failures of an idle test", List.of(texts.validates, texts.destroys), pool.noted);
+        pool.close();
+        write(pool);
+    }
+
     private static void upkeep() throws Exception {
         GenericObjectPoolConfig<String> config = config();
         config.setMinIdle(2);
@@ -1314,6 +1345,7 @@ public final class Calls extends Expectations {
         wholeWaits();
         times();
         failures();
+        orderOfFailures();
         upkeep();
         closedDuringMaintenance();
         closedAfterReplacement();

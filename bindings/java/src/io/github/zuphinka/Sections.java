@@ -246,7 +246,10 @@ final class Sections<T> {
         return answer;
     }
 
-    /** Destroys an object that failed, or is not kept, and frees its place. What failed is thrown if it is an error, or told if it is of a return. */
+    /**
+     * Destroys an object that failed, or is not kept, and frees its place. The first error is thrown. What failed otherwise is told, except for what a
+     * borrow has failed by.
+     */
     private void end(Member<T> member, boolean isReturned, int caller) {
         Throwable fault = work.destroyed(member);
         acquire();
@@ -260,10 +263,11 @@ final class Sections<T> {
         if (isEnding) {
             storeLast();
         }
-        Ends.throwError(member.fault);
-        Ends.throwError(fault);
-        work.swallow(fault);
-        work.swallow(isReturned ? member.fault : null);
+        Throwable reason = isReturned || member.fault instanceof Error ? member.fault : null;
+        Throwable thrown = reason instanceof Error ? reason : fault instanceof Error ? fault : null;
+        work.swallow(reason == thrown ? null : reason);
+        work.swallow(fault == thrown ? null : fault);
+        Ends.throwError(thrown);
     }
 
     // Calls of several sections.

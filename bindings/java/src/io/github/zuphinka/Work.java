@@ -168,13 +168,13 @@ final class Work<T> {
         if (call.reclaimed != null) {
             discardAbandoned(call);
         }
-        swallow(call.destroyFault);
-        call.destroyFault = null;
         boolean isTold = call.kind == Core.KIND_RETURN || call.kind == Core.KIND_EVICT;
         if (isTold && call.action != Core.ACTION_DESTROY) {
             swallow(call.fault);
             call.fault = null;
         }
+        swallow(call.destroyFault);
+        call.destroyFault = null;
     }
 
     // Pairs of two steps.
