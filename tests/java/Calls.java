@@ -276,6 +276,51 @@ public final class Calls extends Expectations {
         write(pool);
     }
 
+    /** A pool whose next return or invalidation finds no memory, if it is told so. */
+    private static final class Poor extends ZuphinkaPool<String> {
+        private boolean isPoor;
+
+        Poor() {
+            super(new Texts(), config());
+        }
+
+        private void allocate() {
+            if (isPoor) {
+                isPoor = false;
+                throw new OutOfMemoryError("heap");
+            }
+        }
+
+        @Override
+        public void returnObject(String text) {
+            allocate();
+            super.returnObject(text);
+        }
+
+        @Override
+        public void invalidateObject(String text) throws Exception {
+            allocate();
+            super.invalidateObject(text);
+        }
+    }
+
+    /** A lease whose end finds no memory is not over, and is ended later. */
+    private static void leasesWithoutMemory() throws Exception {
+        Poor pool = new Poor();
+        Lease<String> lease = pool.lease();
+        pool.isPoor = true;
+        expect("a close without memory", "OutOfMemoryError: heap", ending(lease::close));
+        expect("its object", "text 0", result(lease::get));
+        expect("a later close", "done", ending(lease::close));
+        expect("after it", "1 idle, 0 active, 1 created, 0 destroyed", counts(pool));
+        lease = pool.lease();
+        pool.isPoor = true;
+        expect("an invalidation without memory", "OutOfMemoryError: heap", ending(lease::invalidate));
+        expect("a later one", "done", ending(lease::invalidate));
+        expect("after that", "0 idle, 0 active, 1 created, 1 destroyed", counts(pool));
+        pool.close();
+    }
+
     /** Of the threads that end a lease, one does. */
     private static void leasesOfThreads() throws Exception {
         Noting pool = new Noting(new Texts(), config(), null);
@@ -1340,6 +1385,7 @@ public final class Calls extends Expectations {
         life();
         leases();
         failingLeases();
+        leasesWithoutMemory();
         leasesOfThreads();
         limits();
         wholeWaits();

@@ -57,6 +57,7 @@ public final class Lease<T> implements AutoCloseable {
      *
      * @throws IllegalStateException if the lease is over
      * @throws StackOverflowError if the thread has less than 120 KiB of its stack left: then the lease is not over, and may be ended later
+     * @throws OutOfMemoryError if the heap of the virtual machine is full: the same, unless the object is destroyed
      * @throws Exception if the factory fails to destroy the object. Its place is free all the same, and the lease is over
      */
     public void invalidate() throws Exception {
@@ -69,13 +70,14 @@ public final class Lease<T> implements AutoCloseable {
      * Returns the object and ends the lease, as {@link ZuphinkaPool#returnObject}. It has no effect if the lease is over.
      *
      * @throws StackOverflowError if the thread has less than 120 KiB of its stack left: then the lease is not over, and may be ended later
+     * @throws OutOfMemoryError if the heap of the virtual machine is full: the same, unless the object is destroyed
      */
     @Override
     public void close() {
         this.<RuntimeException>ends(pool::returnObject);
     }
 
-    /** Ends the lease in a way, and returns whether it was not over. After a full stack it is not over either, unless the object is gone. */
+    /** Ends the lease in a way, and returns whether it was not over. After a full stack or heap it is not over either, unless the object is gone. */
     private <E extends Exception> boolean ends(Way<T, E> way) throws E {
         boolean isMine = false;
         try {
@@ -84,9 +86,9 @@ public final class Lease<T> implements AutoCloseable {
                 way.end(object);
             }
             return isMine;
-        } catch (StackOverflowError e) {
+        } catch (StackOverflowError | OutOfMemoryError e) {
             if (isMine) {
-                isOver = false; // before a call that may find the stack full again
+                isOver = false; // before a call that may find it full again
                 if (pool.wrapperOf(object) == null) {
                     isOver = true;
                 }

@@ -45,7 +45,7 @@ import org.apache.commons.pool2.impl.GenericObjectPoolConfig;
  * <li>a {@link StackOverflowError}, if the thread has less than 120 KiB of its stack left.
  * </ul>
  * The return and the invalidation of a lent object never throw the first two, nor does the close of an open pool before it has closed and cleared
- * it. Work begun on an object is always completed.
+ * it, unless the heap of the virtual machine is full. Work begun on an object is always completed.
  *
  * <p>An {@link Error} that the factory throws is thrown by each call, once the place of its object is free. So is one of a wrapper. Of several, as of
  * a close, the first is thrown once all objects are destroyed.
