@@ -977,6 +977,52 @@ public final class Calls extends Expectations {
         pool.close();
     }
 
+    /** Notes the states of the wrappers that it tests, and how often their objects were lent. */
+    private static class Testing extends Plain {
+        final List<String> seen = new ArrayList<>();
+
+        @Override
+        public boolean validateObject(PooledObject<Object> pooled) {
+            return seen.add(pooled.getState() + " " + pooled.getBorrowedCount());
+        }
+
+        @Override
+        public void destroyObject(PooledObject<Object> pooled) {
+            // It sees the wrappers, which are told of their loans for that.
+        }
+    }
+
+    /** Does so, and has work to activate an object. */
+    private static final class Activating extends Testing {
+        @Override
+        public void activateObject(PooledObject<Object> pooled) {
+            seen.add("activate");
+        }
+    }
+
+    /** A test of testOnCreate sees an object that was never lent, and one of testOnBorrow one that is lent, as in the library. */
+    private static void statesOfNew() throws Exception {
+        GenericObjectPoolConfig<Object> config = new GenericObjectPoolConfig<>();
+        config.setJmxEnabled(false);
+        config.setTestOnCreate(true);
+        for (boolean isTested : new boolean[] {false, true}) {
+            config.setTestOnBorrow(isTested);
+            for (List<Testing> both : List.of(List.<Testing>of(new Testing(), new Testing()), List.<Testing>of(new Activating(), new Activating()))) {
+                GenericObjectPool<Object> library = new GenericObjectPool<>(both.get(0), config);
+                ZuphinkaPool<Object> pool = new ZuphinkaPool<>(both.get(1), config);
+                library.returnObject(library.borrowObject());
+                pool.returnObject(pool.borrowObject());
+                library.borrowObject();
+                pool.borrowObject();
+                expect("states that tests of new objects see", both.get(0).seen, both.get(1).seen);
+                expect("the first of them", "IDLE 0", both.get(1).seen.get(0));
+                expect("loans", 2L, pool.listAllObjects().iterator().next().getBorrowedCount());
+                library.close();
+                pool.close();
+            }
+        }
+    }
+
     private static void logged(GenericObjectPoolConfig<Object> config) throws Exception {
         AbandonedConfig abandoned = new AbandonedConfig();
         StringWriter log = new StringWriter();
@@ -1404,6 +1450,7 @@ public final class Calls extends Expectations {
         expect("objects by slot", List.of(), within(begun(Finding::faults)));
         wrappers();
         states();
+        statesOfNew();
         trackedUse();
         earlierUse();
         refusals();

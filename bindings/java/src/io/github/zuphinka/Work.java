@@ -236,7 +236,7 @@ final class Work<T> {
         boolean isAdded;
         try {
             isAdded = hasAdded(member, call.settings.abandoned);
-            if (isAdded && call.kind == Core.KIND_BORROW && !activates) {
+            if (isAdded && call.kind == Core.KIND_BORROW && call.isActivated) {
                 tellNew(member);
             }
         } catch (Throwable e) {
@@ -294,6 +294,9 @@ final class Work<T> {
         if (!isValid(call.member)) {
             call.fault = INVALID;
             return Core.REPORT_FAILED;
+        }
+        if (call.kind == Core.KIND_BORROW && !activates) {
+            tellLoan(call.member);
         }
         if (call.kind == Core.KIND_RETURN && !passivates) {
             tellReturn(call.member);
