@@ -13,6 +13,7 @@ import java.util.List;
 import java.util.concurrent.CountDownLatch;
 import java.util.concurrent.FutureTask;
 import java.util.concurrent.Semaphore;
+import java.util.concurrent.TimeUnit;
 import java.util.concurrent.atomic.AtomicBoolean;
 import java.util.concurrent.atomic.AtomicInteger;
 import java.util.concurrent.locks.ReentrantLock;
@@ -28,6 +29,8 @@ import org.apache.commons.pool2.impl.GenericObjectPoolConfig;
 public final class Waits extends Expectations {
     /** How often a thread waits beside one that borrows again at once. */
     private static final int ROUNDS = 50;
+    /** How often the heap is filled beside threads that call a pool. */
+    private static final int FILLS = 10;
     /** How long another thread has to find the lock held. */
     private static final long PATIENCE_MILLIS = 100;
 
@@ -402,11 +405,91 @@ public final class Waits extends Expectations {
         pool.close();
     }
 
+    /** Makes objects that are activated, tested and passivated. */
+    private static final class Hooked extends Plain {
+        @Override
+        public void activateObject(PooledObject<Object> pooled) {}
+
+        @Override
+        public void passivateObject(PooledObject<Object> pooled) {}
+    }
+
+    /** Borrows and returns until it is told to end, and tries again what has no memory. It needs none itself. */
+    private static final class Trier extends Thread {
+        private final ZuphinkaPool<Object> pool;
+        volatile int tries;
+        volatile boolean isOver;
+
+        Trier(ZuphinkaPool<Object> pool) {
+            this.pool = pool;
+            setDaemon(true);
+        }
+
+        @Override
+        public void run() {
+            Object lent = null;
+            while (!isOver || lent != null) {
+                lent = afterTry(lent);
+                tries++;
+            }
+        }
+
+        /** Borrows, or returns a lent object. Returns the object that is lent then. */
+        private Object afterTry(Object lent) {
+            try {
+                if (lent == null) {
+                    return pool.borrowObject();
+                }
+                pool.returnObject(lent);
+                return null;
+            } catch (IllegalStateException e) {
+                return null; // a try before has destroyed the object
+            } catch (Exception | OutOfMemoryError e) {
+                return lent;
+            }
+        }
+
+        /** Waits until it has tried some times more, or hangs. */
+        void await(int more) {
+            int wanted = tries + more;
+            long begun = System.nanoTime();
+            while (tries - wanted < 0 && System.nanoTime() - begun < TimeUnit.MILLISECONDS.toNanos(LONGEST_MILLIS)) {
+                Thread.onSpinWait();
+            }
+        }
+    }
+
+    /** Threads that call a pool while the heap is full now and again lose no object, and leave nothing behind. */
+    private static void threadsOnFullHeap(Plain factory) throws Exception {
+        GenericObjectPoolConfig<Object> config = new GenericObjectPoolConfig<>();
+        config.setJmxEnabled(false);
+        config.setMaxTotal(3);
+        config.setMaxWait(Duration.ofMillis(10));
+        ZuphinkaPool<Object> pool = new ZuphinkaPool<>(factory, config);
+        List<Trier> triers = List.of(new Trier(pool), new Trier(pool), new Trier(pool), new Trier(pool));
+        triers.forEach(Thread::start);
+        for (int round = 0; round < FILLS; round++) {
+            triers.get(0).await(10);
+            Queueing.fillHeap();
+            Queueing.emptyHeap();
+        }
+        for (Trier trier : triers) {
+            trier.isOver = true;
+        }
+        for (Trier trier : triers) {
+            trier.join(LONGEST_MILLIS);
+        }
+        expect("lent and waiting after full heaps", List.of(0, 0), List.of(pool.getNumActive(), pool.getNumWaiters()));
+        pool.close();
+    }
+
     public static void main(String[] words) throws Exception {
         if (words.length > 0) {
             heldLockOnFullHeap();
             fullHeap();
             fullHeapBesideOthers();
+            threadsOnFullHeap(new Plain());
+            threadsOnFullHeap(new Hooked());
             printCounts();
             return;
         }
