@@ -479,7 +479,8 @@ public final class Waits extends Expectations {
         for (Trier trier : triers) {
             trier.join(LONGEST_MILLIS);
         }
-        expect("lent and waiting after full heaps", List.of(0, 0), List.of(pool.getNumActive(), pool.getNumWaiters()));
+        int others = pool.listAllObjects().size() - pool.getNumIdle();
+        expect("lent, waiting and not forgotten after full heaps", List.of(0, 0, 0), List.of(pool.getNumActive(), pool.getNumWaiters(), others));
         pool.close();
     }
 

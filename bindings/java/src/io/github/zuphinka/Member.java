@@ -11,6 +11,8 @@ final class Member<T> {
     final long id;
     /** Its wrapper; null until it is made. */
     PooledObject<T> pooled;
+    /** By which it is found; null until it is added. */
+    Objects.Identity identity;
     /** Whether its wrapper is told of each loan whatever the settings are; and whether it is told of the loan that there is. */
     boolean isWrapperTold;
     boolean isLoanTold;

@@ -7,7 +7,7 @@ import java.util.concurrent.ConcurrentHashMap;
 final class Objects<T> {
     private final ConcurrentHashMap<Identity, Member<T>> members = new ConcurrentHashMap<>();
 
-    private static final class Identity {
+    static final class Identity {
         private final Object object;
 
         Identity(Object object) {
@@ -27,11 +27,15 @@ final class Objects<T> {
 
     /** Adds an object, and returns whether it was not there. */
     boolean add(Member<T> member) {
-        return members.putIfAbsent(new Identity(member.pooled.getObject()), member) == null;
+        member.identity = new Identity(member.pooled.getObject());
+        return members.putIfAbsent(member.identity, member) == null;
     }
 
+    /** Removes an object, if it was added. It needs no memory. */
     void remove(Member<T> member) {
-        members.remove(new Identity(member.pooled.getObject()), member);
+        if (member.identity != null) {
+            members.remove(member.identity, member);
+        }
     }
 
     /** Returns an object; null if it is not of this pool. */
