@@ -484,6 +484,65 @@ public final class Waits extends Expectations {
         pool.close();
     }
 
+    /** Makes an object once it is told to, if it is slow, and wrappers that fill the heap at a loan, if they are to fail. */
+    private static final class Greedy extends Plain {
+        private static final OutOfMemoryError ERROR = new OutOfMemoryError("wrapper");
+        private final CountDownLatch mayGoOn = new CountDownLatch(1);
+        private volatile boolean isSlow;
+        private volatile boolean isFailing;
+
+        @Override
+        public Object create() {
+            result(() -> !isSlow || mayGoOn.await(LONGEST_MILLIS, TimeUnit.MILLISECONDS));
+            return super.create();
+        }
+
+        @Override
+        public PooledObject<Object> wrap(Object object) {
+            return new DefaultPooledObject<>(object) {
+                @Override
+                public boolean allocate() {
+                    if (isFailing) {
+                        isFailing = false;
+                        Queueing.fillHeap();
+                        throw ERROR;
+                    }
+                    return super.allocate();
+                }
+            };
+        }
+    }
+
+    /** A loan whose wrapper fails on a full heap costs no object, also if the pool keeps no call for the next one. */
+    private static void wrapperOnFullHeap() throws Exception {
+        Greedy factory = new Greedy();
+        GenericObjectPoolConfig<Object> config = new GenericObjectPoolConfig<>();
+        config.setJmxEnabled(false);
+        ZuphinkaPool<Object> pool = new ZuphinkaPool<>(factory, config);
+        pool.addObject();
+        factory.isSlow = true;
+        FutureTask<Object> adding = begun(() -> ending(pool::addObject));
+        until(() -> pool.getNumActive() == 1);
+        factory.isFailing = true;
+        Throwable thrown = null;
+        try {
+            pool.borrowObject();
+        } catch (OutOfMemoryError e) {
+            thrown = e;
+        }
+        Queueing.emptyHeap();
+        factory.mayGoOn.countDown();
+        expect("a wrapper on a full heap", OutOfMemoryError.class, thrown == null ? null : thrown.getClass());
+        expect("an addition beside it", "done", within(adding));
+        expect("after both", "2 idle, 0 active, 2 created, 0 destroyed", counts(pool));
+        Object lent = pool.borrowObject();
+        Object other = pool.borrowObject();
+        pool.returnObject(lent);
+        pool.returnObject(other);
+        expect("after two loans", "2 idle, 0 active, 2 created, 0 destroyed", counts(pool));
+        pool.close();
+    }
+
     public static void main(String[] words) throws Exception {
         if (words.length > 0) {
             heldLockOnFullHeap();
@@ -491,6 +550,7 @@ public final class Waits extends Expectations {
             fullHeapBesideOthers();
             threadsOnFullHeap(new Plain());
             threadsOnFullHeap(new Hooked());
+            wrapperOnFullHeap();
             printCounts();
             return;
         }

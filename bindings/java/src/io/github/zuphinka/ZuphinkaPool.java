@@ -329,9 +329,21 @@ public class ZuphinkaPool<T> extends ConfiguredPool<T> implements ObjectPool<T>,
             work.tellLoan(member);
             return true;
         } catch (Throwable e) {
-            invalidateQuietly(member);
+            endLoan(member);
             rethrow(e);
             return false;
+        }
+    }
+
+    /** Ends a loan of which nobody knows: destroys the object, which becomes idle if there is no memory for that call. */
+    private void endLoan(Member<T> member) {
+        try {
+            invalidateQuietly(member);
+        } catch (OutOfMemoryError e) {
+            while (!member.isGone && !sections.isGivenBack(member, settings())) {
+                // Other settings came between.
+            }
+            throw e;
         }
     }
 
