@@ -14,38 +14,30 @@ TESTS_OF_A_RUN = 3
 # How many lines fall into each.
 MILLISECOND = 10
 JOURNAL_LIMIT = 1 << 32
+# What the pool is asked about an object {i}, and about the one, {new}, that comes in the place of it.
+ADD, ADD_NEW, CLEAR = ("add", "added {i} good"), ("add", "added {new} good"), ("clearnext", "destroyed {i}")
+LEND, GIVE_BACK = ("borrow 0", "ready {i} good"), ("return {i}", "park {i} good")
 
 
-def idle(objects):
-    """Brings objects into the queue."""
-    for i in range(objects):
-        yield "add"
-        yield f"added {i} good"
+def asked(ids, lines, objects=0):
+    """The lines for each id in turn."""
+    for i in ids:
+        yield from (line.format(i=i, new=objects + i) for line in lines)
 
 
-def lent(objects):
-    """Lends objects."""
-    for i in range(objects):
-        yield "borrow 0"
-        yield f"ready {i} good"
+# The ids to which a work comes, one after the other.
 
 
-def lend(i):
-    return "borrow 0", f"ready {i} good"
+def last(objects):
+    return itertools.repeat(objects - 1)
 
 
-def give_back(i):
-    return f"return {i}", f"park {i} good"
+def in_turn(objects):
+    return itertools.cycle(range(objects))
 
 
-def borrow_last(objects):
-    while True:
-        yield from (*lend(objects - 1), *give_back(objects - 1))
-
-
-def borrow_first(objects):
-    for i in itertools.cycle(range(objects)):
-        yield from (*lend(i), *give_back(i))
+def rising(objects):
+    return itertools.count()
 
 
 def any_of(objects):
@@ -54,102 +46,51 @@ def any_of(objects):
         yield rng.randrange(objects)
 
 
-def exchange(objects):
-    for i in any_of(objects):
-        yield from (*give_back(i), *lend(i))
-
-
-def use(objects):
-    for i in any_of(objects):
-        yield f"use {i}"
-
-
-def add(objects):
-    for i in itertools.count():
-        yield from ("add", f"added {objects + i} good", "clearnext", f"destroyed {i}")
-
-
-def fill(objects):
-    for i in itertools.count():
-        yield from ("clearnext", f"destroyed {i}", "fill", f"added {objects + i} good")
-
-
-def rounds(objects):
-    """The ids of those that leave, and of those that come, round after round."""
-    for start in itertools.count(0, objects):
-        yield range(start, start + objects), range(start + objects, start + 2 * objects)
-
-
-def clear(objects):
-    for leaving, coming in rounds(objects):
-        yield "clear"
-        for i in leaving:
-            yield from ("clearnext", f"destroyed {i}")
-        for i in coming:
-            yield from ("add", f"added {i} good")
-
-
-def invalidate(objects, order):
-    for leaving, coming in rounds(objects):
-        for i in order(leaving):
-            yield from (f"invalidate {i}", f"destroyed {i}")
-        for i in coming:
-            yield from lend(i)
-
-
 def shuffled(ids):
     return random.Random(SEED).sample(ids, len(ids))
 
 
-def evict(objects):
-    while True:
-        yield "evict"
-        yield from itertools.repeat("evictnext", TESTS_OF_A_RUN)
+# Works: what the pool is asked while there are so many objects.
 
 
-def examined(objects):
-    """The ids of those that each run examines."""
-    ids = itertools.count()
-    while True:
-        yield list(itertools.islice(ids, TESTS_OF_A_RUN))
+def each(ids, *lines):
+    """The same of one object after the other."""
+    return lambda objects: asked(ids(objects), lines, objects)
 
 
-def evict_tested(objects):
-    for run in examined(objects):
-        yield "evict"
-        for i in run:
-            yield from ("evictnext", f"tested {i % objects} good")
+def runs(ids, *lines):
+    """Eviction runs, which examine one object after the other."""
+
+    def ask(objects):
+        for at, i in enumerate(ids(objects)):
+            yield from itertools.chain(["evict"] * (at % TESTS_OF_A_RUN == 0), asked([i], lines, objects))
+
+    return ask
 
 
-def evict_old(objects):
-    for run in examined(objects):
-        yield "evict"
-        for i in run:
-            yield from ("evictnext", f"destroyed {i}", "add", f"added {objects + i} good")
+def rounds(order, leave, come, *first):
+    """All objects leave, in an order, and others come, round after round."""
 
+    def ask(objects):
+        for start in itertools.count(0, objects):
+            leaving, coming = range(start, start + objects), range(start + objects, start + 2 * objects)
+            yield from itertools.chain(first, asked(order(leaving), leave), asked(coming, come))
 
-def evict_borrowed(objects):
-    for i in itertools.cycle(range(objects)):
-        yield from ("evictnext", *lend(i), *give_back(i))
-
-
-def borrow_low(objects):
-    for i in any_of(objects):
-        yield from (*give_back(i), "reclaim borrow", "reclaimnext", *lend(i))
+    return ask
 
 
 @dataclasses.dataclass
 class Work:
-    """A kind of work: what the pool is asked, and the settings that it needs beside those of all."""
+    """A kind of work: what brings each object, what the pool is asked then, and the settings that it needs beside those of all."""
 
     name: str
-    bring: Callable[[int], Iterator[str]]
+    bring: tuple[str, ...]
     ask: Callable[[int], Iterator[str]]
     settings: str = ""
 
     def script(self, objects, lines):
         """Brings the objects, and does so many lines of work."""
-        return text(itertools.chain(self.bring(objects), itertools.islice(self.ask(objects), lines)))
+        return text(itertools.chain(asked(range(objects), self.bring), itertools.islice(self.ask(objects), lines)))
 
     def settings_for(self, objects):
         bounds = f"journalLimit = {JOURNAL_LIMIT}\nmaxTotal = -1\nmaxIdle = -1\n"
@@ -163,24 +104,25 @@ def text(inputs):
 
 def bring_and_wait(objects, lines):
     """The script that brings idle objects, and then only counts them until it has so many lines."""
-    return text(itertools.islice(itertools.chain(idle(objects), itertools.repeat("clear")), lines))
+    return text(itertools.islice(itertools.chain(asked(range(objects), ADD), itertools.repeat("clear")), lines))
 
 
 WORKS = [
-    Work("borrow and return, last in first out", idle, borrow_last),
-    Work("borrow and return, first in first out", idle, borrow_first, "{bounds}lifo = false\n"),
-    Work("return and borrow, any of the lent", lent, exchange),
-    Work("use, any of the lent", lent, use),
-    Work("borrow with removal, nothing overdue", lent, borrow_low,
+    Work("borrow and return, last in first out", ADD, each(last, *LEND, *GIVE_BACK)),
+    Work("borrow and return, first in first out", ADD, each(in_turn, *LEND, *GIVE_BACK), "{bounds}lifo = false\n"),
+    Work("return and borrow, any of the lent", LEND, each(any_of, *GIVE_BACK, *LEND)),
+    Work("use, any of the lent", LEND, each(any_of, "use {i}")),
+    Work("borrow with removal, nothing overdue", LEND, each(any_of, *GIVE_BACK, "reclaim borrow", "reclaimnext", *LEND),
          "journalLimit = {limit}\nmaxTotal = {objects}\nmaxIdle = -1\n[abandoned]\nremoveAbandonedOnBorrow = true\n"),
-    Work("add, and the first leaves", idle, add),
-    Work("fill, where the first left", idle, fill, "{bounds}minIdle = {objects}\n"),
-    Work("clear, and add as many", idle, clear),
-    Work("invalidate by rising id, and make", lent, lambda objects: invalidate(objects, list)),
-    Work("invalidate by falling id, and make", lent, lambda objects: invalidate(objects, reversed)),
-    Work("invalidate in any order, and make", lent, lambda objects: invalidate(objects, shuffled)),
-    Work("eviction runs", idle, evict),
-    Work("eviction runs with tests", idle, evict_tested, "{bounds}testWhileIdle = true\n"),
-    Work("eviction runs that destroy, and add", idle, evict_old, "{bounds}minEvictableIdleMillis = 1\n"),
-    Work("eviction steps between borrows", idle, evict_borrowed, "{bounds}lifo = false\n"),
+    Work("add, and the first leaves", ADD, each(rising, *ADD_NEW, *CLEAR)),
+    Work("fill, where the first left", ADD, each(rising, *CLEAR, "fill", "added {new} good"), "{bounds}minIdle = {objects}\n"),
+    Work("clear, and add as many", ADD, rounds(list, CLEAR, ADD, "clear")),
+    *(
+        Work(f"invalidate {how}, and make", LEND, rounds(order, ("invalidate {i}", "destroyed {i}"), LEND))
+        for how, order in (("by rising id", list), ("by falling id", reversed), ("in any order", shuffled))
+    ),
+    Work("eviction runs", ADD, runs(rising, "evictnext")),
+    Work("eviction runs with tests", ADD, runs(in_turn, "evictnext", "tested {i} good"), "{bounds}testWhileIdle = true\n"),
+    Work("eviction runs that destroy, and add", ADD, runs(rising, "evictnext", "destroyed {i}", *ADD_NEW), "{bounds}minEvictableIdleMillis = 1\n"),
+    Work("eviction steps between borrows", ADD, each(in_turn, "evictnext", *LEND, *GIVE_BACK), "{bounds}lifo = false\n"),
 ]
