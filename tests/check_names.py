@@ -1,5 +1,5 @@
 #!/usr/bin/env python3
-"""Sees that what README.md, CONTRIBUTING.md, SECURITY.md, bindings/c/README.md, examples/README.md and docs/ name is there.
+"""Sees that what README.md, CONTRIBUTING.md, SECURITY.md, bindings/c/README.md, examples/README.md and docs/ name is there, and the code that they show.
 
 check_names.py  The last line is 'N passed, M failed'.
 
@@ -8,12 +8,17 @@ of an edit, and a method belongs to its type; each name that stands beside a sou
 with a column "File", is declared in that source; and each clause that docs/proof/proved.md names is one of its crate. Each page of docs/ opens with a
 sentence that says for whom it is. Each source in Rattle and of the Rust crate begins with a line that says what it has.
 The diffs of CONTRIBUTING.md fit the sources.
+
+Each block between fences in README.md and docs/guide says its language. A block of Rust, C or Java is one contiguous piece of a file that is compiled,
+except for how far it is indented: nothing is left out. A block of sh is on a page whose commands a test of its own runs. README.md shows code, and has
+at most 150 lines.
 """
 
 import functools
 import pathlib
 import re
 import sys
+import textwrap
 
 from playing import TOP, play_checks
 
@@ -39,6 +44,12 @@ OTHERS = (
     *("tests/*.*", "tests/java/*", "tests/drop_in/*", "tests/commons_pool/*"),
     *("bench/*", "tools/*", "docs/pictures/*.py", "examples/*.toml", "examples/*.script", "pool", "check", "crates.txt", "bindings/c/Makefile"),
 )
+
+# What a page shows between fences, and the files of which that is a piece; and pages whose blocks of sh are run: tests/play_judge.py.
+FENCE = re.compile(r"^```([^\n]*)\n(.*?)^```$", re.MULTILINE | re.DOTALL)
+COMPILED = ("crates/example_server/src/*.rt", "bindings/c/examples/*.c", "bindings/rust/examples/*.rs", "bindings/java/examples/*.java")
+RUN_ELSEWHERE = {"audits.md"}
+LONGEST_README = 150
 
 
 @functools.cache
@@ -178,6 +189,37 @@ def check_beginning(source):
     yield source.relative_to(TOP), None if says else "doesn't begin with a line //! that says what it has"
 
 
+def plain(text):
+    """The lines of a text, without their indentation."""
+    return "".join(line.strip() + "\n" for line in text.splitlines() if line.strip())
+
+
+@functools.cache
+def compiled():
+    """The texts of which the code that pages show is a piece."""
+    return [plain(file.read_text()) for pattern in COMPILED for file in TOP.glob(pattern)]
+
+
+def fault_of_block(page, language, block):
+    """Why a block between fences is not as it should be, if it isn't."""
+    if language == "sh":
+        return None if page.name in RUN_ELSEWHERE else "no test runs it"
+    if language not in ("rust", "c", "java"):
+        return f"language {language!r}"
+    return None if any(plain(block) in source for source in compiled()) else "no file has it"
+
+
+def check_code(page):
+    for language, block in FENCE.findall(page.read_text()):
+        yield textwrap.dedent(block), fault_of_block(page, language, block)
+
+
+def check_readme(page):
+    text = page.read_text()
+    yield "its code", None if FENCE.search(text) else "there is none"
+    yield "its length", None if text.count("\n") <= LONGEST_README else f"{text.count(chr(10))} lines"
+
+
 def check_diffs(page):
     """Each line that a diff of a page keeps or takes away is in the file that the diff names."""
     for block in re.findall(r"^```diff\n(.*?)^```$", page.read_text(), flags=re.MULTILINE | re.DOTALL):
@@ -247,11 +289,12 @@ def checks():
     found = [(check, page) for page in (*PAGES, *others) for check in (check_mentions, check_beside, check_links)]
     found += [(check_opening, page) for page in PAGES if page != TOP / "README.md"]
     found += [(check_definitions, TOP / "docs" / name) for name in ("proof/definitions.md", "proof/sharing.md", "dev/architecture.md")]
-    found += [(check_clauses, TOP / "docs/proof/proved.md"), (check_diffs, TOP / "CONTRIBUTING.md")]
+    found += [(check_clauses, TOP / "docs/proof/proved.md"), (check_diffs, TOP / "CONTRIBUTING.md"), (check_readme, TOP / "README.md")]
+    found += [(check_code, page) for page in (TOP / "README.md", *sorted((TOP / "docs/guide").glob("*.md")))]
     found += [(check_beginning, source) for pattern in ("crates/*/src/**/*.rt", "bindings/rust/src/*.rs") for source in sorted(TOP.glob(pattern))]
     for check, page in found:
         named = list(check(page))
-        if not named and check not in (check_links, check_mentions, check_beside):
+        if not named and check not in (check_links, check_mentions, check_beside, check_code):
             named = [(check.__name__, "nothing to check")]
         yield from ((f"{page.name}: {name}", None, fault) for name, fault in named)
 

@@ -8,16 +8,19 @@ same in docs/guide/program.md and docs/proof/definitions.md; each of them is giv
 has a row for each file of tests of the shared pool; the outstanding entries and the room of docs/guide/operations.md follow from the definitions; and
 docs/proof/edits.md has a row for each edit of crates/*/must-fail, in the section of its crate, which names the function that it changes, and several
 rows for one that makes a mistake in each of several functions. The name of each crate begins as its section of crates.txt requires,
-docs/dev/architecture.md has a paragraph on it, and docs/pictures/crates.svg shows what its script draws. docs/guide/differences.md and
-docs/guide/commons-pool-tests.md name the same tests, for the same differences. Each ratio that the page of a language shows is that of
+docs/dev/architecture.md has a paragraph on it, and docs/pictures/crates.svg shows what its script draws. Each move that a journal of the cases makes is
+in the table of moves in docs/guide/concepts.md, each outcome there is met by some move, and docs/pictures/life.svg shows the table. docs/guide/differences.md
+and docs/guide/commons-pool-tests.md name the same tests, for the same differences. Each ratio that the page of a language shows is that of
 docs/guide/speed.md, and docs/guide/platforms.md has the versions that the package files ask for; these have the licence. Each
 choice of docs/DECISIONS.md has an id of its group, and each id that a page or a source cites is there.
 """
 
+import functools
 import re
 import sys
 import tomllib
 
+import picture_model
 from case_files import CASES, read_cases
 from check_names import PAGES, TOP, backquoted, rows_in, sources, tables
 from play_mutants import function_at, replacements
@@ -90,14 +93,40 @@ def check_answers():
         yield f"docs/guide/program.md: {name}", definitions.get(name), guide.get(name)
 
 
+@functools.cache
+def journals():
+    """The journals of the cases, by the names of these: of a worked case by its last part."""
+    return {re.sub("^worked/.*/", "", case.name): case.journal.decode() for case in read_cases(CASES) if case.journal is not None}
+
+
 def check_cases():
-    """Each answer is in the journal of the case that the page names: of a worked case in its last part."""
-    journals = {re.sub("^worked/.*/", "", case.name): case.journal.decode() for case in read_cases(CASES) if case.journal is not None}
+    """Each answer is in the journal of the case that the page names."""
     for row in tables(DEFINITIONS):
         name = row.get("Input", "").strip("`")
         for answer, case in re.findall(r"`([a-z ]+)` ([\w/-]+)", row.get("Answers", "")):
-            given = re.search(rf"^\d+ \d+ {name}\b.* = {answer}\b", journals.get(case, ""), re.MULTILINE)
+            given = re.search(rf"^\d+ \d+ {name}\b.* = {answer}\b", journals().get(case, ""), re.MULTILINE)
             yield f"docs/proof/definitions.md: {name}: {case} has an answer {answer}", True, given is not None
+
+
+def moves(journal):
+    """Each move of a journal: phase before, input, outcome or nothing, answer, phase after."""
+    phases = {}
+    for entry in picture_model.read(journal).entries:
+        if move := entry.moved():
+            id, after = move
+            yield phases.get(id, "Absent"), entry.asked[0], entry.asked[2] if len(entry.asked) > 2 else "", entry.answer[0], after
+            phases[id] = after
+
+
+def check_life():
+    page = (TOP / "docs/guide/concepts.md").read_text()
+    rows = draw_graphs.rows(page)
+    table = {(before, name, outcome, *after) for before, (name, *outcomes), *after in rows for outcome in outcomes or [""]}
+    seen = {move: name for name, journal in journals().items() for move in moves(journal)}
+    for move in sorted(table | seen.keys()):
+        yield f"docs/guide/concepts.md: {' '.join(move)}: is in {seen.get(move, 'a journal')}", (True, True), (move in table, move in seen)
+    shown = draw_graphs.shown((TOP / "docs/pictures/life.svg").read_text())
+    yield "docs/pictures/life.svg shows what docs/pictures/draw_graphs.py draws", draw_graphs.life(page).wanted(), shown
 
 
 def check_trials():
@@ -245,8 +274,8 @@ def check_decisions():
 
 
 CHECKS = (
-    *(check_settings, check_answers, check_cases, check_trials, check_room, check_edits, check_crates, check_commons_pool),
-    *(check_ratios, check_platforms, check_decisions),
+    *(check_settings, check_answers, check_cases, check_trials, check_room, check_edits, check_crates, check_life),
+    *(check_commons_pool, check_ratios, check_platforms, check_decisions),
 )
 
 

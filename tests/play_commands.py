@@ -9,7 +9,7 @@ settings, cut into segments or not; the form of a line; or the line of `rt versi
 The command ./check is not run, since it runs this, nor is tools/build.py, also not by make, since it has built the programs: there must be such a
 crate or binding.
 Java's commands are run by play_java.py. What ./try does with the program without its proofs is done here by the program. Blocks between fences are not
-run: check_readme.py holds them against the sources. Names are for check_names.py. Cargo's commands are skipped if no cargo runs.
+run: check_names.py holds them against the sources, and looks at names. Cargo's commands are skipped if no cargo runs.
 """
 
 import functools

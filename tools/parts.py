@@ -69,7 +69,6 @@ PARTS = (
     Part("program", "arguments, files, statuses and messages of the program", "python3 tests/play_program.py {pool}"),
     Part("lines", "lines of scripts, journals and bases that break the format", "python3 tests/play_lines.py {pool}"),
     Part("examples", "the examples of the settings, and the pictures of the pages", "python3 tests/play_examples.py {pool} {journal_picture}"),
-    Part("life", "the table of phases against all journals of the cases", "python3 tests/check_life.py tests/cases"),
     Part("picture", "the pictures of journal_picture", "python3 tests/check_picture.py {journal_picture} tests/cases"),
     Part("archive", "the example of an archive, and its segments",
          "python3 tests/play_archive.py {example_archive} crates/example_archive/stdout {pool}"),
@@ -77,11 +76,9 @@ PARTS = (
     Part("terminal", "progress and hints at a terminal", "python3 tests/play_terminal.py {pool}"),
     Part("builds", "./pool builds exactly what changed", "python3 tests/play_build.py"),
     Part("parts", "./check itself, on a small repository", "python3 tests/play_check.py"),
-    Part("readme", "the code that the README and the guide show is compiled code",
-         "python3 tests/check_readme.py README.md crates/example_server bindings/c/examples bindings/rust/examples bindings/java/examples"),
     Part("metrics", "the reader of the pools' metrics refuses what the OpenMetrics format forbids", "python3 tests/openmetrics.py"),
-    Part("names", "what the pages name is there", "python3 tests/check_names.py"),
-    Part("tables", "the tables of the pages agree with the sources", "python3 tests/check_tables.py"),
+    Part("names", "what the pages name is there, and the code that they show is compiled code", "python3 tests/check_names.py"),
+    Part("tables", "the tables of the pages agree with the sources, and the table of phases with all journals of the cases", "python3 tests/check_tables.py"),
     Part("version", "all products have one version", "python3 tests/check_version.py {pool} {judge} {journal_picture}"),
     Part("c-cases", "the cases on the C library", "python3 tests/play_library.py cases {zuphinka} tests/cases"),
     Part("c-segments", "the cases on the C library, with the journal cut", "python3 tests/play_library.py segments {zuphinka} {pool} tests/cases"),
@@ -102,7 +99,7 @@ QUICK_ALONE = (
          "python3 tests/check_rust.py tests/model_program.py", ("zuphinka",), folders=CARGO),
 )
 # All parts of `./check quick`, which needs no proof and takes less than five minutes.
-QUICK = ("unproved", "rust-model", "case-files", "life", "readme", "metrics", "names", "tables")
+QUICK = ("unproved", "rust-model", "case-files", "metrics", "names", "tables")
 
 JARS, CRATES = "/usr/share/java", "/usr/share/cargo/registry"
 PLUGINS = "/usr/share/maven-repo/org/apache/maven/plugins"
