@@ -199,15 +199,6 @@ def read_cases(*paths):
             yield dataclasses.replace(case, name=full_name(path, case))
 
 
-def case_named(name):
-    """The case of this name, such as worked/loans/plain_life."""
-    file = (CASES / name).parent.with_suffix(".toml")
-    found = [case for case in read_cases(file) if case.name == name] if file.is_file() else []
-    if not found:
-        raise CaseError(f"{file}: no case {name}")
-    return found[0]
-
-
 def unpack(case, room):
     """Writes the files of a case to a folder of its own below `room`, and returns that."""
     folder = pathlib.Path(room) / case.name

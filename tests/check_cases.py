@@ -14,7 +14,7 @@ import re
 import subprocess
 import sys
 
-from case_files import CASES, Case, CaseError, case_named, read_cases, read_file, written
+from case_files import CASES, Case, CaseError, read_cases, read_file, written
 from make_cases import SEEDED, files_made, remade
 from playing import play_checks, scratch
 
@@ -193,17 +193,10 @@ def check_bytes(folder):
         yield f"the answer {error!r}", error, case.answer
 
 
-def check_found():
-    """A case is found by its name, and one that is not there is an error."""
-    yield "the name of a case", b"0 10 borrow 10\n", case_named("worked/loans/plain_life").script[:15]
-    for name in ("worked/loans/none", "worked/none/plain_life", "none"):
-        yield name, True, str(outcome(case_named, name)).endswith(f"no case {name}")
-
-
 def main():
     with scratch() as room:
         of_format = (check(room) for check in (check_new, check_faults, check_unpacking, check_bytes))
-        return play_checks(itertools.chain(check_made(), check_copies(), check_found(), *of_format))
+        return play_checks(itertools.chain(check_made(), check_copies(), *of_format))
 
 
 if __name__ == "__main__":

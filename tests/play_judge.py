@@ -39,7 +39,7 @@ from play_damaged import Chance
 from play_segments import THREE, damaged_segments, play_trials, segmented
 from playing import differing, scratch, write_files
 from pool_model import LineFault, Pool, read_entry, settings_of, verdict_of_segments, words_of
-from preloading import preloaded, refusals, refusing
+from preloading import preloaded, refusals
 
 def run(*command):
     done = playing.run(*command)
@@ -295,11 +295,10 @@ def of_refusals(judge, cases, room):
 
 def of_refused(command, wanted, library, mark):
     """What differs where each allocation is refused in turn, and where none is. The first cannot be done without."""
-    found = differing(f"{command[2]}, no allocation refused", (wanted, b"", 0), refusing(library, mark, 0, *command))
-    number = 0
+    found = []
     for number, done in refusals(library, mark, *command):
         is_whole = (done.stdout, done.stderr, done.returncode) == (wanted, b"", 0)
-        is_refused = (done.stdout, done.returncode) == (b"", 3) and re.fullmatch(rb"judge: .*out of memory\n", done.stderr)
+        is_refused = number and (done.stdout, done.returncode) == (b"", 3) and re.fullmatch(rb"judge: .*out of memory\n", done.stderr)
         if not is_refused and (not is_whole or number == 1):
             found.append(f"{command[2]}, allocation {number}: {done}")
     return found if number else [f"{command[2]}: no allocation"]

@@ -27,17 +27,13 @@ def launcher(folder):
     return built
 
 
-def refusing(library, mark, number, *words, **options):
-    """Runs a program with one allocation refused, by the library of refuse.c, or none if the number is 0. The file `mark` is there then if it was."""
-    mark.unlink(missing_ok=True)
-    settings = {"LD_PRELOAD": str(library), "REFUSED": str(mark), "REFUSE": str(number)}
-    return run(*words, env=os.environ | settings, **options)
-
-
 def refusals(library, mark, *words, **options):
-    """Runs a program once for each of its allocations, which is refused then. Yields its number and what came of the run."""
-    for number in itertools.count(1):
-        done = refusing(library, mark, number, *words, **options)
-        if not mark.exists():
+    """Runs a program with all allocations granted, and then once for each of them, which is refused then, by the library of refuse.c. Yields its number,
+    0 at first, and what came of the run. The file `mark` is there after a run in which one was refused."""
+    for number in itertools.count():
+        mark.unlink(missing_ok=True)
+        settings = {"LD_PRELOAD": str(library), "REFUSED": str(mark), "REFUSE": str(number)}
+        done = run(*words, env=os.environ | settings, **options)
+        if number and not mark.exists():
             return
         yield number, done

@@ -7,7 +7,8 @@ POOL is the program. It is used with files and with standard input, with wrong a
 every EACH-th script of tests/cases. Each use is run once for each of its allocations, which is refused then (tests/refuse.c, built
 with the C compiler that CC names, or cc). It must then answer what it answers else; or end with status 3, after some whole lines
 from the front of that answer, and the line 'pool: out of memory', 'pool: no thread' where it starts threads, or 'pool: cannot open
-..' for one of its files, or for the settings beside one. If the words are wrong, only status 3 with 'pool: out of memory' and no output may replace the answer.
+..' for one of its files, or for the settings beside one. If the words are wrong, only status 3 with 'pool: out of memory' and no output
+may replace the answer. No use can do without its first allocation.
 
 Prints each run that is wrong, and in the end the line 'N passed, M failed'.
 """
@@ -21,17 +22,17 @@ from argument_rules import found, refusal, statistics
 from case_files import CASES, script_of, unpacked, wanted_of
 from play_program import PLAIN_LIFE, fault, load_lines, told
 from playing import scratch, side_by_side, tell, write_files
-from preloading import preloaded, refusals, refusing
+from preloading import preloaded, refusals
 
-# Of the scripts, the statistics, and the journals in segments every such one is played.
-EACH = 4
+# Of the scripts, the statistics, and the journals in segments every such one is played, and this script.
+EACH, SCRIPT = 4, "worked/loans/two_objects_fifo"
 # Longer scripts take the same allocations, and more time.
 LONGEST = 20_000
 FILES = {
     "a.toml": b"maxTotal = 4\n", "all.toml": b"lifo = true\nmaxIdle = 3\nminIdle = 1\n[abandoned]\nremoveAbandonedOnBorrow = true\n",
     "key.toml": b"'a long key that no setting has' = 1\n", "table.toml": b"[abandoned]\nnone = 1\n", "type.toml": b"lifo = 1\n",
     "range.toml": b"minIdle = -1\n", "not.toml": b"maxTotal =", "bytes.toml": b"\xff", "long.toml": b"#".ljust(1_048_577, b"c"),
-    "two.toml": b"journalLimit = 2\n", "seven.toml": b"journalLimit = 7\n", "script": script_of(PLAIN_LIFE), "journal": PLAIN_LIFE,
+    "two.toml": b"journalLimit = 2\n", "seven.toml": b"journalLimit = 7\n", "of_two.toml": b"maxTotal = 2\n", "script": script_of(PLAIN_LIFE), "journal": PLAIN_LIFE,
     "illegal": PLAIN_LIFE.replace(b"check", b"gone"), "bad": b"0 1 borrow 01\n", "empty": b"", "segment-0": PLAIN_LIFE, "settings-0.toml": b"lifo = true\n",
 }
 STATISTICS = statistics(1, 1, 1, 0, 0, 0, 0, 4, 4)
@@ -55,7 +56,7 @@ GOOD = [
     ("check all.toml /dev/stdin", b"legal 4\n", PLAIN_LIFE), ("check /dev/stdin journal", b"legal 4\n", FILES["a.toml"]), ("run a.toml empty", b""),
     ("stats journal", STATISTICS), ("stats /dev/stdin", STATISTICS, PLAIN_LIFE), ("load a.toml 1 1", LOAD),
     ("load /dev/stdin 1 1", LOAD, FILES["all.toml"]), ("check a.toml empty -- journal", b"legal 4\n"), ("stats journal --", STATISTICS),
-    ("check two.toml segment-0", b"legal 4\n"),
+    ("check two.toml segment-0", b"legal 4\n"), ("load of_two.toml 1 5", load_lines(1, 5, 0, 5, 5, 1, 1, 0, 0, 0, 1, 5)),
 ]
 # Words that name no task.
 WRONG_WORDS = [
@@ -119,7 +120,7 @@ def uses_of_cases(room):
     """Uses of every EACH-th script that isn't long, and of segments."""
     cases = unpacked(room, CASES)
     scripts = [(case, folder) for case, folder in cases if case.journal is not None and len(case.script) < LONGEST]
-    for case, folder in scripts[::EACH]:
+    for case, folder in [*scripts[::EACH], *(found for found in scripts if found[0].name == SCRIPT)]:
         yield from uses_of_script(case, folder)
     yield from uses_of_segments([(case, folder) for case, folder in cases if case.segments])
 
@@ -136,13 +137,11 @@ def is_refused(use, answer):
 
 
 def runs(pool, library, mark, use):
-    """What is told of each run of the use: nothing if it was right. In some run memory must have run out."""
-    options = {"input": use.given, "cwd": mark.parent}
-    all_runs = itertools.chain([(0, refusing(library, mark, 0, pool, *use.arguments, **options))], refusals(library, mark, pool, *use.arguments, **options))
-    answers = [(number, found(done)) for number, done in all_runs]
+    """What is told of each run of the use: nothing if it was right. The first allocation must have been missed."""
+    answers = [(number, found(done)) for number, done in refusals(library, mark, pool, *use.arguments, input=use.given, cwd=mark.parent)]
     refused = {number for number, answer in answers[1:] if is_refused(use, answer)}
     wrong = [f"{use.arguments}: allocation {number}: {answer}" for number, answer in answers if number not in refused and answer != use.answer]
-    missed = [f"{use.arguments}: no allocation was missed"] * (not refused)
+    missed = [f"{use.arguments}: the first allocation was not missed"] * (1 not in refused)
     return [[]] * (len(answers) - len(wrong)) + [[line] for line in wrong + missed]
 
 
