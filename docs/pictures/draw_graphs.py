@@ -11,9 +11,14 @@ import json
 import pathlib
 import re
 import subprocess
+import sys
 import xml.etree.ElementTree as xml
 
 TOP = pathlib.Path(__file__).resolve().parent.parent.parent
+sys.path.append(str(TOP / "tools"))
+
+from sources import below, libraries
+
 SVG = "{http://www.w3.org/2000/svg}"
 STYLE = """node [shape=box, style="filled,rounded", fontname="sans-serif", fontsize=14]
 edge [fontname="sans-serif", fontsize=13, arrowsize=0.7]
@@ -61,34 +66,22 @@ def shown(picture):
 
 
 def sections(text):
-    """For each section its title, and its crates with the names after their colon."""
+    """For each section its title, and its crates."""
     found = []
     for line in text.splitlines():
         if line.startswith("# ") and not line.endswith("."):
-            found.append((line[2:], {}))
+            found.append((line[2:], []))
         elif ":" in line.partition("#")[0]:
-            head, _, names = line.partition(":")
-            found[-1][1][head.split()[0]] = names.split()
+            found[-1][1].append(re.match(r"\w+", line)[0])
     return found
 
 
-def below(crate, uses):
-    """All that a crate depends on."""
-    return set().union(*({name} | below(name, uses) for name in uses[crate]))
-
-
-def graph(text):
-    """For each crate those that it depends on, except those to which a chain of others leads."""
-    crates = {crate: names for _, group in sections(text) for crate, names in group.items()}
-    uses = {crate: [name for name in names if name in crates] for crate, names in crates.items()}
-    return {crate: [name for name in names if not any(name in below(other, uses) for other in names)] for crate, names in uses.items()}
-
-
 def crates(text):
-    """The graph of the crates, by crates.txt."""
+    """The graph of the crates, by crates.txt. To a crate to which a chain of others leads there is no arrow."""
     coloured = dict(zip(COLOURS, sections(text), strict=True))
     nodes = {crate: colour for colour, (_, crates) in coloured.items() for crate in crates}
-    arrows = {(crate, name): [] for crate, names in graph(text).items() for name in names}
+    reached = {crate: set().union(*(below(name) - {name} for name in names)) for crate, names in libraries().items()}
+    arrows = {(crate, name): [] for crate in nodes for name in libraries()[crate] if name not in reached[crate]}
     return Graph("The crates, and what each depends on", nodes, arrows, {colour: title for colour, (title, _) in coloured.items()})
 
 
