@@ -6,12 +6,14 @@ import pathlib
 import shutil
 import subprocess
 import sys
+import tempfile
 
 TOP = pathlib.Path(__file__).resolve().parent.parent
 sys.path += [str(TOP / "tools"), str(TOP / "tests")]
 
 import java
 from install import INCLUDE, POOL, heap_of_kit
+from machine import moment, processor
 
 LIBRARY, JAR = java.LIBRARY, java.DEBIAN_JAR
 REGISTRY = pathlib.Path("/usr/share/cargo/registry")
@@ -28,16 +30,24 @@ def build(*command, **options):
     subprocess.run([str(word) for word in command], check=True, **options)
 
 
-def built_pool():
-    build(TOP / "pool", stdin=subprocess.DEVNULL)
-    return TOP / "crates/pool/out/pool"
+def built(crate):
+    """Proves and builds a program of the repository, if it isn't built of its sources. Returns its path."""
+    build(sys.executable, TOP / "tools/build.py", crate)
+    return TOP / "crates" / crate / "out" / crate
 
 
-def built_by_cargo(package, *words, registry=None):
-    """Builds a package, with the sources of crates that a registry of Debian has. Returns the folder of its programs."""
-    source = ["--config", 'source.crates-io.replace-with="debian"', "--config", f'source.debian.directory="{registry.resolve()}"'] if registry else []
-    build("cargo", "build", "--offline", "--release", "--quiet", *source, *words, cwd=package)
-    return pathlib.Path(os.environ.get("CARGO_TARGET_DIR", package / "target")) / "release"
+def of_registry(registry):
+    """The words by which cargo takes the sources of crates from a registry of Debian."""
+    return ["--config", 'source.crates-io.replace-with="debian"', "--config", f'source.debian.directory="{registry.resolve()}"']
+
+
+def built_by_cargo(package, *words, registry=None, target=None):
+    """Builds a package, with the sources of crates that a registry of Debian has, in a folder of its own or in `target`. Returns the folder of its
+    programs."""
+    target = target or os.environ.get("CARGO_TARGET_DIR", package / "target")
+    source = of_registry(registry) if registry else []
+    build("cargo", "build", "--offline", "--release", "--quiet", "--target-dir", target, *source, *words, cwd=package)
+    return pathlib.Path(target) / "release"
 
 
 def built_c(program, *words):
@@ -65,12 +75,16 @@ def version_of_jdk():
 
 
 class Contest:
-    """What is built in a folder for the columns that are wanted: the versions of what is used, and why columns are left out, as lines."""
+    """What is built in a folder for the columns that are wanted: the programs, the versions of what is used, and why columns are left out, as lines."""
 
     def __init__(self, folder, asked, columns):
         self.folder, self.library, self.registry = pathlib.Path(folder), asked.library, asked.registry
         self.wanted = getattr(asked, "only", None) or columns
-        self.versions, self.left_out = [], []
+        self.versions, self.left_out, self.programs = [], [], {}
+
+    def announce(self, work):
+        """Prints what is left out, the machine, the versions and the work."""
+        print(*self.left_out, "; ".join(filter(None, [processor(), ", ".join(self.versions)])), f"{moment()}; {work}\n", sep="\n", flush=True)
 
     def wants(self, *columns):
         """Those of some columns that are wanted."""
@@ -145,9 +159,13 @@ def print_missed(rows, word):
     return missed > 0
 
 
-def end_with(main):
-    """Ends this process with what `main` returns, or with the run that failed."""
-    try:
-        sys.exit(main())
-    except Miscounted as error:
-        sys.exit(f"a run failed: {error}")
+def play(parser, asked, contest, compare):
+    """Builds the programs of a contest in a temporary folder, and ends this process with what `compare` returns, or with the run that failed."""
+    with tempfile.TemporaryDirectory(prefix="zuphinka-", ignore_cleanup_errors=True) as folder:
+        built = contest(folder, asked)
+        if not built.programs:
+            parser.error(f"nothing to run: {'; '.join(built.left_out)}")
+        try:
+            sys.exit(compare(built, asked))
+        except Miscounted as error:
+            sys.exit(f"a run failed: {error}")

@@ -53,10 +53,9 @@ class Programs(Contest):
 
     def __init__(self, folder, asked):
         super().__init__(folder, asked, COLUMNS)
-        self.jars, self.commands = asked.jars, {}
-        self.enter_rust()
-        self.enter_java()
-        self.enter_c()
+        self.jars = asked.jars
+        for enter in self.enter_rust, self.enter_java, self.enter_c:
+            enter()
 
     def wanted_of(self, kinds, *needs):
         """The columns of some kinds that are wanted, if all is there that they need."""
@@ -64,7 +63,7 @@ class Programs(Contest):
         return columns if self.has(columns, (PROGRAMS, "postgresql"), *needs) else []
 
     def enter(self, columns, kinds, words, server):
-        self.commands |= {column: [*words, kinds[column], server] for column in columns}
+        self.programs |= {column: [*words, kinds[column], server] for column in columns}
 
     def enter_rust(self):
         """Enters the pools in Rust, which are all in one program."""

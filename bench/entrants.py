@@ -8,7 +8,8 @@ import subprocess
 import time
 from collections.abc import Callable
 
-from contest import COMPILER, LONGEST, TOP, Contest, Miscounted, build, built_by_cargo, built_c, built_pool, version_of, version_of_jdk
+from contest import COMPILER, LONGEST, TOP, Contest, Miscounted, build, built, built_by_cargo, built_c, version_of, version_of_jdk
+from preloading import preloaded
 
 CONTESTANTS, RUST, CRATE = TOP / "bench/peers_java", TOP / "bench/peers_rust", TOP / "bindings/rust"
 HIKARI_JAR = pathlib.Path("/usr/share/java/HikariCP.jar")
@@ -201,12 +202,11 @@ class Entrants(Contest):
     def enter_load(self):
         if not self.wants(LOAD, THREADS_OF_LOAD):
             return
-        load = self.asks(self.pool or built_pool(), before=["load"])
+        load = self.asks(self.pool or built("pool"), before=["load"])
         if not self.has([THREADS_OF_LOAD], (shutil.which(COMPILER), "C compiler")):
             self.programs.append(Entrant(load, is_right_load, whole(LOAD)))
             return
-        library, worked = self.folder / "worked.so", self.folder / "worked"
-        build(COMPILER, "-O1", "-shared", "-fPIC", "-o", library, TOP / "bench/worked.c", "-ldl")
+        library, worked = preloaded("worked", self.folder, TOP / "bench"), self.folder / "worked"
 
         def times(report, seconds):
             """The time of the whole process, and that of its threads, if they told."""

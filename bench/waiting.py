@@ -48,25 +48,24 @@ class Programs(Contest):
 
     def __init__(self, folder, asked):
         super().__init__(folder, asked, COLUMNS)
-        self.jar, self.commands = asked.jar, {}
-        self.enter_rust()
-        self.enter_c()
-        self.enter_java()
+        self.jar = asked.jar
+        for enter in self.enter_rust, self.enter_c, self.enter_java:
+            enter()
 
     def enter_rust(self):
         if self.has([R2D2], *self.of_crates({"r2d2": "librust-r2d2-dev"})):
-            self.commands[R2D2] = [built_by_cargo(RUST, registry=self.registry) / "r2d2_waits"]
+            self.programs[R2D2] = [built_by_cargo(RUST, registry=self.registry) / "r2d2_waits"]
         if self.has([THREADS, TASKS], *self.of_crates({}), self.of_ours()[0]):
             programs = built_by_cargo(TOP / "bench/waits_rust")
-            self.commands |= {THREADS: [programs / "thread_waits"], TASKS: [programs / "task_waits"]}
+            self.programs |= {THREADS: [programs / "thread_waits"], TASKS: [programs / "task_waits"]}
 
     def enter_c(self):
         if self.has([C], *self.of_ours()):
-            self.commands[C] = [built_c(self.folder / "longest_waits", TOP / "bench/longest_waits.c", *self.sources_of_c_pool())]
+            self.programs[C] = [built_c(self.folder / "longest_waits", TOP / "bench/longest_waits.c", *self.sources_of_c_pool())]
 
     def enter_java(self):
         """Enters the pool for Java and Commons Pool 2, which one class runs: its first argument says which."""
         needs = (version_of_jdk(), "JDK"), (self.jar.exists(), f"libcommons-pool2-java ({self.jar})")
         if self.has([JAVA, COMMONS], *needs, *self.of_ours()):
             program = self.built_java(CONTESTANTS, ["Waits"], [self.jar], True)
-            self.commands |= {JAVA: [*program, "Zuphinka"], COMMONS: [*program, "Commons"]}
+            self.programs |= {JAVA: [*program, "Zuphinka"], COMMONS: [*program, "Commons"]}

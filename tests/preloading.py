@@ -12,10 +12,10 @@ HERE = pathlib.Path(__file__).resolve().parent
 COMPILER = os.environ.get("CC", "cc")
 
 
-def preloaded(name, folder):
-    """Builds the library tests/NAME.c in the folder, with the C compiler that CC names, or cc, and gives its path."""
+def preloaded(name, folder, sources=HERE):
+    """Builds the library tests/NAME.c in the folder, or one of other sources, with the C compiler that CC names, or cc, and gives its path."""
     library = pathlib.Path(folder) / f"{name}.so"
-    subprocess.run([COMPILER, "-O1", "-shared", "-fPIC", "-o", library, HERE / f"{name}.c", "-ldl"], check=True)
+    subprocess.run([COMPILER, "-O1", "-shared", "-fPIC", "-o", library, sources / f"{name}.c", "-ldl"], check=True)
     return library
 
 
