@@ -5,7 +5,7 @@
     play_commons_pool.py --fetch
 
 LIBRARY is libzuphinka.a, POOL and JUDGE the programs `pool` and `judge`, and FOLDER the source of Commons Pool 2 of the version that is installed.
-Else COMMONS_POOL2_SOURCE names it, or Debian's archive of it is downloaded, unless --fetch has stored it in the folder out. The tests run in four
+Else COMMONS_POOL2_SOURCE names it, or Debian's archive of it is downloaded, unless --fetch has stored it in the folder out. The tests run in several
 virtual machines, over the GenericObjectPool of bindings/java/commons-pool2, which comes before the library's and passes each call on. A test that does
 not end as the page says runs again, alone, up to twice.
 
@@ -17,7 +17,6 @@ Prints what fails, and in the end the line 'N passed, M failed'.
 """
 
 import argparse
-import concurrent.futures
 import contextlib
 import hashlib
 import http.client
@@ -36,7 +35,7 @@ import urllib.request
 from check_names import backquoted, tables
 from play_java import legal_in, play_with_java
 from play_java_random import commons_pool_version
-from playing import TOP, scratch
+from playing import TOP, scratch, side_by_side
 
 import java
 from install import heap_of_kit
@@ -51,15 +50,8 @@ FETCHED = TOP / "out" / pathlib.PurePosixPath(ARCHIVE).name
 # The jars that the tests need besides, and the packages that have them.
 JUNIT = ("junit-jupiter-api", "junit-jupiter-engine", "junit-platform-commons", "junit-platform-engine", "junit-platform-launcher")
 JARS = dict.fromkeys((*JUNIT, "apiguardian-api", "opentest4j", "hamcrest"), "junit5") | dict.fromkeys(("cglib", "asm"), "libcglib-java")
-MACHINES = 4
-# For how many seconds the longest tests run, by which they are dealt out to the machines. Any other counts as a part of a second.
-SECONDS = {
-    **{"testMaxTotalUnderLoad": 20, "testMaxIdleZeroUnderLoad": 20, "testConcurrentInvalidate": 9, "testEviction": 8, "testThreaded1": 6},
-    **{"testUsageTracking": 5, "testAbandonedReturn": 4, "testEvictionSoftMinIdle": 4, "testAbandonedInvalidate": 3, "testNoInstanceOverlap": 3},
-    **{"testValidationOnCreateOnly": 3, "testCheckMinIdleObjectPool": 2, "testConcurrentBorrowAndEvict": 2, "testEvictionOrder": 2},
-    **{"testEvictionTimerMultiplePools": 2, "testStackTrace": 2},
-}
-SHORT = 0.2
+# To how many virtual machines the tests are dealt out. A processor that has ended with one takes the next.
+MACHINES = 12
 # What makes a short run of the virtual machine take less of the processors.
 SHORT_RUN = ("-XX:TieredStopAtLevel=1", "-XX:+UseSerialGC", "-XX:-UsePerfData")
 # How long a test may take, and all tests of one machine, in seconds.
@@ -217,23 +209,8 @@ class Tests:
 
     def all_results(self, names):
         """What came of tests that run in several machines."""
-        results = {}
-        with concurrent.futures.ThreadPoolExecutor(MACHINES) as workers:
-            for found in workers.map(self.results, dealt(names)):
-                results |= found
-        return results
-
-
-def dealt(names):
-    """Tests, dealt out to machines so that these take about as long as each other."""
-
-    def seconds(name):
-        return SECONDS.get(name.partition("#")[2], SHORT)
-
-    hands = [[] for _ in range(MACHINES)]
-    for name in sorted(names, key=seconds, reverse=True):
-        min(hands, key=lambda hand: sum(map(seconds, hand))).append(name)
-    return hands
+        found = side_by_side(self.results, (names[at::MACHINES] for at in range(MACHINES)))
+        return {name: result for results in found for name, result in results.items()}
 
 
 def repeated(tests, page, results):
@@ -266,27 +243,21 @@ def checks_of_results(page, results):
         yield test, wanted, got
 
 
-def fault_of_journal(pool, judge, folder):
-    """What is wrong with the journal in a folder, if it is not legal."""
-    wanted, found = legal_in(folder, pool, judge)
-    return None if found == wanted else f"{folder.name}: {found}"
-
-
 def checks_of_journals(pool, judge, folder):
     """What is wanted of the journals, and what they are."""
     journals = sorted({path.parent for path in folder.glob("journals-*/*/segment-*")})
-    with concurrent.futures.ThreadPoolExecutor(MACHINES) as workers:
-        faults = list(workers.map(lambda journal: fault_of_journal(pool, judge, journal), journals))
-    print(f"{faults.count(None)} journals are legal")
-    yield "journals that are not legal", [], [fault for fault in faults if fault]
-    yield "there are journals", True, bool(faults)
+    found = list(side_by_side(lambda journal: legal_in(journal, pool, judge), journals))
+    faults = [f"{journal.name}: {got}" for journal, (wanted, got) in zip(journals, found) if got != wanted]
+    print(f"{len(journals) - len(faults)} journals are legal")
+    yield "journals that are not legal", [], faults
+    yield "there are journals", True, bool(journals)
 
 
 def checks(library, pool, judge, source):
     page = read_page()
     with scratch() as folder:
         source = source or unpacked(folder)
-        jar = java.build(pathlib.Path(library), heap_of_kit(), folder / "out")
+        jar = java.build(library, heap_of_kit(), folder / "out")
         tests = Tests(page.classes(), source, jar, folder)
         found = tests.run("list", page.classes())
         yield from checks_of_page(page, found)
@@ -303,12 +274,10 @@ def arguments():
     words = argparse.ArgumentParser(description=__doc__, formatter_class=argparse.RawDescriptionHelpFormatter)
     words.add_argument("--source", type=pathlib.Path, default=os.environ.get("COMMONS_POOL2_SOURCE"), help="the source of Commons Pool 2")
     words.add_argument("--fetch", action="store_true", help="store the archive of the source, and test nothing")
-    words.add_argument("library", metavar="LIBRARY", nargs="?", help="libzuphinka.a")
-    words.add_argument("pool", metavar="POOL", nargs="?", help="the program pool")
-    words.add_argument("judge", metavar="JUDGE", nargs="?", help="the program judge, unless --fetch")
+    words.add_argument("products", metavar="LIBRARY POOL JUDGE", nargs="*", type=pathlib.Path, help="libzuphinka.a, and two programs, unless --fetch")
     given = words.parse_args()
-    if not given.fetch and not given.pool:
-        words.error("LIBRARY and POOL are missing")
+    if not given.fetch and len(given.products) != 3:
+        words.error("LIBRARY, POOL and JUDGE are missing")
     return given
 
 
@@ -318,7 +287,7 @@ def main():
         return fetch()
     if given.source and not (given.source / "src/test/java").is_dir():
         sys.exit(f"{given.source}/src/test/java: no such folder\n0 passed, 1 failed")
-    return play_with_java("the tests of Commons Pool 2", checks(given.library, given.pool, given.judge, given.source), jars, require_version)
+    return play_with_java("the tests of Commons Pool 2", checks(*given.products, given.source), jars, require_version)
 
 
 if __name__ == "__main__":
