@@ -18,8 +18,9 @@ import re
 import subprocess
 import sys
 
-from check_rust import runs_cargo
 from playing import NO_CARGO, TOP, has, play_checks, scratch, skip
+
+from contest import runs_cargo
 
 # Commands that this does not run, since they run it.
 OWN = ("./check", "./check --install")

@@ -32,12 +32,12 @@ import time
 import urllib.request
 
 import openmetrics
-from check_rust import CRATE, REGISTRY, runs_cargo
-from playing import NO_CARGO, TOP, has, play_checks, skip
+from playing import NO_CARGO, TOP, has, play_checks, skip, stored_journal
 from play_library import EXAMPLES, FLAGS, INCLUDE, compiler
 from postgres_server import ROLE, SHARED, Server, end_with_parent, free_port, sessions_of
 
 import java
+from contest import REGISTRY, built_by_cargo, runs_cargo
 from install import POOL, heap_of_kit
 
 CONNECTIONS = 4
@@ -101,12 +101,9 @@ def in_rust():
         return None
     if not runs_cargo():
         return skip("the example over PostgreSQL in Rust", NO_CARGO)
-    target = CRATE / "target/postgres"
-    source = ["--config", 'source.crates-io.replace-with="debian"', "--config", f'source.debian.directory="{REGISTRY}"']
-    words = ["cargo", "build", "--release", "--offline", "--quiet", *source]
-    java.run(*words, cwd=CRATE / "examples/postgres", env=os.environ | {"CARGO_TARGET_DIR": str(target)})
-    program = target / "release/postgres"
-    return Example("rust", 10_000, over_connection_string(program))
+    crate = TOP / "bindings/rust"
+    built = built_by_cargo(crate / "examples/postgres", registry=REGISTRY, target=crate / "target/postgres")
+    return Example("rust", 10_000, over_connection_string(built / "postgres"))
 
 
 def in_c(library, folder):
@@ -278,14 +275,9 @@ def closing(name, server, program):
     yield f"{name}: no process after the close, before its end", (set(), True), (server.backends(), program.is_alive())
 
 
-def entries_of(folder):
-    """The words of each entry of a journal that is stored in a folder, caller and time left out."""
-    lines = [line for segment in sorted(folder.glob("segment-*")) for line in segment.read_text().splitlines()]
-    return [line.split()[2:] for line in lines if " = " in line]
-
-
-def counts_of(entries):
+def counts_of(lines):
     """How many objects a journal says were asked for, how many freed their places, and how many were made."""
+    entries = [line.split()[2:] for line in lines if " = " in line]
     asked = sum(words[-2] == "make" for words in entries)
     freed = sum(words[-1] == "freed" for words in entries)
     failed = sum(words[0] in ("ready", "added") and words[2] == "makefail" for words in entries)
@@ -294,10 +286,8 @@ def counts_of(entries):
 
 def journal(name, pool, folder, told, log, used):
     """What is wanted of the journal, and what came of it."""
-    entries = entries_of(folder)
-    done = subprocess.run([pool, "check", folder / "settings.toml", *sorted(folder.glob("segment-*"))], capture_output=True, text=True)
-    yield f"{name}: its journal", (f"legal {len(entries)}\n", ""), (done.stdout, done.stderr)
-    asked, freed, made = counts_of(entries)
+    yield f"{name}: its journal", *stored_journal(pool, folder)
+    asked, freed, made = counts_of(line for segment in folder.glob("segment-*") for line in segment.read_text().splitlines())
     yield f"{name}: the counts of its journal", (asked, freed), (int(told["created"]), int(told["destroyed"]))
     least, most = sessions_of(log)
     print(f"{name}: {made} connections by the journal; by the server {len(least | used)} to {len(most)}; {asked - made} could not be made")
@@ -380,7 +370,7 @@ def watching(server):
     authorized = "".join(f"{pid} LOG:  connection authorized: user={ROLE} database=x\n" for pid in (1, 2, 3))
     log = authorized + "2 FATAL:  remaining connection slots are reserved for x\n3 FATAL:  terminating connection due to x\n"
     yield "sessions of a log", ({"1"}, {"1", "3"}), sessions_of(log)
-    entries = [line.split() for line in ("borrow 1 = make 0", "ready 0 makefail = freed", "add = make 1", "added 1 good = parked")]
+    entries = "0 1 borrow 1 = make 0", "0 1 ready 0 makefail = freed", "0 2 add = make 1", "0 2 added 1 good = parked"
     yield "counts of a journal", (2, 1, 1), counts_of(entries)
 
 

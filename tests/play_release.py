@@ -23,10 +23,11 @@ import subprocess
 import sys
 import tarfile
 
-from check_rust import runs_cargo
 from play_java import BANK, EXAMPLE_JARS, java, portable
 from play_library import PLAIN_LIFE, TOP
-from playing import NO_CARGO, has, play_checks, scratch, skip
+from playing import NO_CARGO, has, play_checks, scratch, skip, stored_journal
+
+from contest import runs_cargo
 
 # The examples in Rust and Java: four servers with fifty requests each, of which each tenth breaks its connection.
 ANSWERED = 4 * 50 * 9 // 10
@@ -156,14 +157,6 @@ def checksums(top):
     yield "all is as it was packed again", (b"", b"", 0), shell(command, top)
 
 
-def is_legal(top, folder):
-    """What the program of the archive says of the segments in a folder, as they have entries."""
-    segments = sorted(folder.glob("segment-*"))
-    count = sum(text.count(b" = ") for text in (file.read_bytes() for file in segments))
-    done = run(top / "bin/pool", "check", folder / "settings.toml", *segments, folder=top)
-    return (f"legal {count}\n".encode(), b"", count > 0), (done.stdout, done.stderr, count > 0)
-
-
 def commands(top):
     """The three commands of the README for C and Rust, and the check of the journal that the last stored."""
     blocks = BLOCK.findall((top / "README.md").read_text())
@@ -178,7 +171,7 @@ def commands(top):
     yield run_rust, (b"", 0), (said, status)
     report = re.fullmatch(rb"%d requests were answered over \d+ connections\n" % ANSWERED, faults)
     yield "what the Rust example tells", True, report is not None or faults
-    yield "the journal of the Rust example", *is_legal(top, top / "journal")
+    yield "the journal of the Rust example", *stored_journal(top / "bin/pool", top / "journal")
     yield blocks[1].strip(), 0, shell(blocks[1].strip(), top)[2]
     segment = min((top / "journal").glob("segment-*"))
     done = run(top / "bin/judge", "journal/settings.toml", segment, folder=top)
@@ -191,7 +184,7 @@ def example(top, block, folder, report):
     said, faults, status = shell("\n".join(commands), top)
     yield commands[-1], (b"", 0), (faults, status)
     yield "what it prints", True, re.fullmatch(report, said) is not None or said
-    yield "its journal", *is_legal(top, top / folder)
+    yield "its journal", *stored_journal(top / "bin/pool", top / folder)
     yield check, 0, shell(check, top)[2]
 
 
@@ -222,7 +215,7 @@ def shared_life(top, package, before):
     (folder / "settings.toml").write_text("journalLimit = 1000\n")
     command = f"{before}./shared_life {folder.name}/settings.toml {folder.name} {THREADS} {ROUNDS}"
     yield f"shared_life by {package}", (b"", b"", 0), shell(command, top)
-    yield f"the journal of shared_life by {package}", *is_legal(top, folder)
+    yield f"the journal of shared_life by {package}", *stored_journal(top / "bin/pool", folder)
 
 
 def programs(top):

@@ -77,6 +77,15 @@ def differing(name, wanted, done):
     return [f"{name}: {kind}: wanted {want!r:.{MOST_PRINTED}}, got {have!r:.{MOST_PRINTED}}" for kind, want, have in found]
 
 
+def stored_journal(pool, folder):
+    """What `pool check` is to say of the segments that are stored in a folder, by their entries and the settings there, and what it says. There are
+    entries."""
+    segments = sorted(folder.glob("segment-*"))
+    entries = sum(path.read_bytes().count(b" = ") for path in segments)
+    done = run(pool, "check", folder / "settings.toml", *segments, timeout=600)
+    return (b"legal %d\n" % entries, b"", True), (done.stdout, done.stderr, entries > 0)
+
+
 def side_by_side(work, *lists):
     """What calls return that run side by side, in their order."""
     with concurrent.futures.ThreadPoolExecutor(os.cpu_count()) as workers:
