@@ -14,18 +14,15 @@ end the line 'N passed, M failed'.
 """
 
 import argparse
-import concurrent.futures
-import os
 import pathlib
 import re
-import subprocess
 import sys
 import typing
 
 from check_names import tables
-from play_java import COUNT, play_with_java
+from play_java import play_with_java, program, run_java
 from play_java_random import commons_pool_version
-from playing import TOP, scratch
+from playing import TOP, scratch, side_by_side
 
 import java
 from install import heap_of_kit
@@ -90,17 +87,14 @@ class Pools:
         return to
 
     def played(self, seed, runs, shown, *first):
-        """Plays runs, over the classes in some folders first. Returns the status, and what was written."""
-        path = os.pathsep.join(map(str, [*first, self.folder / "classes", java.commons_pool()]))
-        options = [f"-Dzuphinka.library={self.native}", "-XX:-UsePerfData", java.QUICK, "-cp", path]
-        words = [java.jdk() / "bin/java", *options, "CommonsRandom", *map(str, (seed, runs, shown))]
-        done = subprocess.run(words, stdout=subprocess.PIPE, stderr=subprocess.STDOUT, text=True)
-        return done.returncode, done.stdout
+        """Plays runs, over the classes in some folders first. Returns what came of it."""
+        path = *first, self.folder / "classes", java.commons_pool()
+        return run_java(path, "CommonsRandom", seed, runs, shown, options=[f"-Dzuphinka.library={self.native}", java.QUICK], longest=None)
 
     def notice(self, mistake):
         """Returns whether runs notice a mistake, and by their outcomes alone."""
-        status, text = self.played(0, RUNS_OF_MISTAKE, 0, self.with_mistake(mistake))
-        return status == 0 and not text.endswith(" 0 failed\n")
+        done = self.played(0, RUNS_OF_MISTAKE, 0, self.with_mistake(mistake))
+        return done.returncode == 0 and not done.stdout.endswith(" 0 failed\n")
 
 
 def checks_of_page(text):
@@ -114,23 +108,19 @@ def checks_of_page(text):
 
 def checks_of_runs(pools, seed, runs):
     """What is wanted of the runs, and what they are. The page names numbers of the runs that are made if none are named."""
-    status, text = pools.played(seed, runs, SHOWN)
-    print(f"commons-pool is version {commons_pool_version()}\n{text}", end="")
-    passed, failed = map(int, COUNT.findall(text)[-1]) if COUNT.search(text) else (0, 1)
-    yield "the status", 0, status
-    yield "runs that differ", 0, failed
-    yield from ((f"run {number}", True, True) for number in range(passed))
-    if (seed, runs, failed) == (0, RUNS, 0):
-        yield from checks_of_page(text)
+    done = pools.played(seed, runs, SHOWN)
+    print(f"commons-pool is version {commons_pool_version()}\n{done.stdout}", end="")
+    yield from program("runs that do not differ", done)
+    if (seed, runs) == (0, RUNS) and done.stdout.endswith(" 0 failed\n"):
+        yield from checks_of_page(done.stdout)
 
 
 def checks(library, seed, runs):
     with scratch() as folder:
         pools = Pools(library, folder)
         yield from checks_of_runs(pools, seed, runs)
-        with concurrent.futures.ThreadPoolExecutor(os.cpu_count()) as workers:
-            for mistake, is_noticed in zip(MISTAKES, workers.map(pools.notice, MISTAKES)):
-                yield f"{mistake.name}: some run notices it", True, is_noticed
+        for mistake, is_noticed in zip(MISTAKES, side_by_side(pools.notice, MISTAKES)):
+            yield f"{mistake.name}: some run notices it", True, is_noticed
 
 
 def arguments():

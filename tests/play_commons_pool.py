@@ -33,7 +33,7 @@ import typing
 import urllib.request
 
 from check_names import backquoted, tables
-from play_java import legal_in, play_with_java
+from play_java import legal_in, play_with_java, run_java
 from play_java_random import commons_pool_version
 from playing import TOP, scratch, side_by_side
 
@@ -168,14 +168,10 @@ class Tests:
         others = [java.drop_in(jar.parent), jar, java.commons_pool(), *jars()]
         own, tests = folder / "own", folder / "tests"
         java.compile_classes(sorted(OWN.rglob("*.java")), own, *others)
-        words = [*(f"-J{option}" for option in SHORT_RUN), "-nowarn", "-implicit:class", "-cp", self.joined(own, *others)]
+        words = [*(f"-J{option}" for option in SHORT_RUN), "-nowarn", "-implicit:class", "-cp", os.pathsep.join(map(str, (own, *others)))]
         java.run(java.jdk() / "bin/javac", *words, "-sourcepath", self.sources, "-d", tests, *map(self.file, names))
-        self.path = self.joined(tests, source / "src/test/resources", own, *others)
+        self.path = tests, source / "src/test/resources", own, *others
         self.numbers = itertools.count()
-
-    @staticmethod
-    def joined(*paths):
-        return os.pathsep.join(map(str, paths))
 
     def file(self, name):
         """The file of a class."""
@@ -192,11 +188,9 @@ class Tests:
         number = next(self.numbers)
         lines, journals = self.folder / f"lines-{number}", self.folder / f"journals-{number}"
         options = [f"-Djunit.jupiter.execution.timeout.default={TEST_SECONDS}s", f"-Dzuphinka.journals={journals}"]
-        options += [*SHORT_RUN, "--add-opens", "java.base/java.lang=ALL-UNNAMED", "-cp", self.path]
-        command = [java.jdk() / "bin/java", *options, "RunTests", task, lines, *map(self.qualified, names)]
-        streams = dict.fromkeys(("stdin", "stdout", "stderr"), subprocess.DEVNULL)
+        options += [*SHORT_RUN, "--add-opens", "java.base/java.lang=ALL-UNNAMED"]
         with contextlib.suppress(subprocess.TimeoutExpired):
-            subprocess.run(command, **streams, timeout=MACHINE_SECONDS)
+            run_java(self.path, "RunTests", task, lines, *map(self.qualified, names), options=options, longest=MACHINE_SECONDS)
         return [re.sub(r"^(\w+\.)+", "", line) for line in lines.read_text().splitlines()] if lines.exists() else []
 
     def results(self, names):

@@ -14,10 +14,9 @@ Prints what fails, and in the end the line 'N passed, M failed'.
 
 import pathlib
 import re
-import subprocess
 import sys
 
-from play_java import LONGEST, legal_in, play_with_java, program
+from play_java import legal_in, play_with_java, program, run_java
 from playing import TOP, has, scratch
 
 import java
@@ -32,8 +31,7 @@ LEAST_MEMBERS = 100
 
 def run(path, *words, options=()):
     """Runs a test program over a class path."""
-    command = [java.jdk() / "bin/java", java.QUICK, "-XX:-UsePerfData", *options, "-cp", ":".join(map(str, path)), *map(str, words)]
-    return subprocess.run(command, stdout=subprocess.PIPE, stderr=subprocess.STDOUT, text=True, timeout=LONGEST)
+    return run_java(path, *words, options=[java.QUICK, *options])
 
 
 def surface(classes, jars):

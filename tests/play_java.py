@@ -73,12 +73,16 @@ def play_with_java(what, found, *needs):
         return skip_all(what, missing)
 
 
+def run_java(path, *words, options=(), variables={}, longest=LONGEST):
+    """Runs a class with its words, over a class path."""
+    command = [java.jdk() / "bin/java", "-XX:-UsePerfData", *options, "-cp", os.pathsep.join(map(str, path)), *map(str, words)]
+    return subprocess.run(command, stdout=subprocess.PIPE, stderr=subprocess.STDOUT, text=True, timeout=longest, env=os.environ | variables)
+
+
 def run(jar, classes, *words, options=(), variables={}):
     """Runs a test program, over a jar or a folder with the classes of the library."""
-    path = ":".join(map(str, (classes, jar, java.commons_pool())))
-    command = [java.jdk() / "bin/java", "-Xcheck:jni", "-XX:-UsePerfData", "-XX:+ErrorFileToStdout", *options, "-cp", path, *map(str, words)]
-    environment = os.environ | variables
-    return subprocess.run(command, stdout=subprocess.PIPE, stderr=subprocess.STDOUT, text=True, timeout=LONGEST, env=environment)
+    checked = ["-Xcheck:jni", "-XX:+ErrorFileToStdout", *options]
+    return run_java([classes, jar, java.commons_pool()], *words, options=checked, variables=variables)
 
 
 def program(name, done):

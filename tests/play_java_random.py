@@ -12,11 +12,10 @@ Prints a line for each of the two, what fails, and in the end the line 'N passed
 
 import pathlib
 import re
-import subprocess
 import sys
 import zipfile
 
-from play_java import COUNT, play_with_java
+from play_java import COUNT, play_with_java, program, run_java
 from playing import TOP, scratch
 
 import java
@@ -39,10 +38,10 @@ def commons_pool_version():
 
 
 def played(pool, path):
-    """Plays all runs of a pool, and returns how that ended, and what was written."""
-    words = [java.jdk() / "bin/java", "-XX:-UsePerfData", "-cp", path, "Promises", pool, str(RUNS), str(MILLIS), str(LONGEST[pool])]
-    done = subprocess.run(words, stdout=subprocess.PIPE, stderr=subprocess.STDOUT, text=True, timeout=LONGEST_IN_ALL)
-    return done.returncode, done.stdout
+    """Plays all runs of a pool, and prints what that wrote."""
+    done = run_java(path, "Promises", pool, RUNS, MILLIS, LONGEST[pool], longest=LONGEST_IN_ALL)
+    print(done.stdout, end="")
+    return done
 
 
 def checks(library):
@@ -50,15 +49,11 @@ def checks(library):
     with scratch() as folder:
         jar, classes = java.build(library, heap_of_kit(), folder / "out"), folder / "classes"
         java.compile_classes(SOURCES, classes, jar, java.commons_pool())
-        path = ":".join(map(str, (classes, jar, java.commons_pool())))
-        print(played("commons-pool", path)[1], end="")
-        status, text = played("zuphinka", path)
-        print(text, end="")
-    passed, failed = map(int, COUNT.findall(text)[-1]) if COUNT.search(text) else (0, 1)
-    yield "the status", 0, status
-    yield "runs that broke a promise", 0, failed
-    yield from ((f"run {number}", True, True) for number in range(passed))
-    yield "runs", RUNS, passed + failed
+        path = classes, jar, java.commons_pool()
+        played("commons-pool", path)
+        done = played("zuphinka", path)
+    yield from program("runs that keep each promise", done)
+    yield "the number of runs", [RUNS], [int(passed) + int(failed) for passed, failed in COUNT.findall(done.stdout)][-1:]
 
 
 if __name__ == "__main__":

@@ -27,6 +27,7 @@ from play_java import BANK, EXAMPLE_JARS, java, portable
 from play_library import PLAIN_LIFE, TOP
 from playing import NO_CARGO, has, play_checks, scratch, skip, stored_journal
 
+import sources
 from contest import runs_cargo
 
 # The examples in Rust and Java: four servers with fifty requests each, of which each tenth breaks its connection.
@@ -91,14 +92,10 @@ def without_java(clone, folder):
     yield "its PROVED", True, "; without the pool for Java\n" in proved
 
 
-def git(*words):
-    return subprocess.run(["git", *words], cwd=TOP, capture_output=True, text=True, check=True).stdout.strip()
-
-
 def logs(clone, folder):
     """The logs of ./check that are refused, and the one that is taken where nothing is changed since the commit."""
-    is_changed = git("status", "--porcelain") != ""
-    commit = git("rev-parse", "HEAD") + "-changed" * is_changed
+    commit = sources.checked_out()
+    is_changed = commit.endswith("-changed")
     cases = {
         "": 1,
         f"check: commit {commit}\n": 1,
@@ -129,7 +126,7 @@ def entries(archive):
     yield "the top folder", {top}, {entry.name.split("/")[0] for entry in found}
     yield "the order", sorted(found, key=lambda entry: pathlib.PurePath(entry.name).parts), sorted(found, key=lambda entry: found.index(entry))
     yield "the owners", {(0, 0, "root", "root")}, {(entry.uid, entry.gid, entry.uname, entry.gname) for entry in found}
-    yield "the times", {int(git("log", "-1", "--format=%ct"))}, {entry.mtime for entry in found}
+    yield "the times", {int(sources.git("log", "-1", "--format=%ct"))}, {entry.mtime for entry in found}
     yield "the modes", {0o755, 0o644}, {entry.mode for entry in found}
     version = (TOP / "VERSION").read_text().strip()
     yield "the name", f"zuphinka-{version}-linux-x86_64.tar.gz", archive.name

@@ -60,19 +60,6 @@ def arguments():
     return words.parse_args()
 
 
-def git(*words):
-    """What a command of git writes, without its last line feed."""
-    done = subprocess.run(["git", *words], cwd=TOP, capture_output=True, text=True)
-    if done.returncode:
-        sys.exit(f"git {words[0]}: {done.stderr.strip()}")
-    return done.stdout.strip()
-
-
-def checked_out():
-    """The commit that is checked out, followed by -changed where files here aren't those of it."""
-    return git("rev-parse", "HEAD") + ("-changed" if git("status", "--porcelain") else "")
-
-
 def verdict(gate, commit):
     """What ./check came to, by its log. Ends where that isn't a full check of this commit that passed."""
     if gate is None:
@@ -142,7 +129,7 @@ def describe(stage, has_java):
 
 def prove(stage, said, commit):
     """Writes what was passed, and the checksum of each file."""
-    time = git("log", "-1", "--format=%cI")
+    time = sources.git("log", "-1", "--format=%cI")
     head = PROVED.format(version=install.version(), verdict=said, commit=commit, time=time, kit=sources.kit())
     names = sorted(path.relative_to(stage).as_posix() for path in stage.rglob("*") if path.is_file())
     lines = [f"{hashlib.sha256((stage / name).read_bytes()).hexdigest()}  {name}\n" for name in names]
@@ -151,7 +138,7 @@ def prove(stage, said, commit):
 
 def pack(stage, archive):
     """Packs a folder so that the same files give the same bytes."""
-    part, time = archive.with_name(archive.name + ".part"), git("log", "-1", "--format=%ct")
+    part, time = archive.with_name(archive.name + ".part"), sources.git("log", "-1", "--format=%ct")
     plain = "--format=gnu", "--sort=name", "--owner=root:0", "--group=root:0", "--mode=u=rwX,go=rX", f"--mtime=@{time}"
     install.run("tar", "--create", *plain, "--use-compress-program=gzip -9n", "--file", part, "--directory", stage.parent, stage.name)
     os.replace(part, archive)
@@ -164,7 +151,7 @@ def main():
             java.jdk(), java.commons_pool()
         except java.Missing as missing:
             sys.exit(f"java: {missing}; --without-java makes an archive without the pool for Java")
-    commit = checked_out()
+    commit = sources.checked_out() or sys.exit(f"{TOP}: no commit is checked out")
     said = verdict(given.gate, commit)
     if given.programs is None:
         build()

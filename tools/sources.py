@@ -83,6 +83,18 @@ def kit():
     return subprocess.run(["rt", "version"], check=True, capture_output=True, text=True, stdin=subprocess.DEVNULL).stdout.strip()
 
 
+def git(*words):
+    """What a command of git writes, or nothing where it fails."""
+    done = subprocess.run(["git", *words], cwd=TOP, stdout=subprocess.PIPE, stderr=subprocess.DEVNULL, text=True)
+    return done.stdout.strip() if done.returncode == 0 else ""
+
+
+def checked_out():
+    """The commit that is checked out, followed by -changed where files here aren't those of it; or nothing where there is none."""
+    commit = git("rev-parse", "HEAD")
+    return commit and commit + "-changed" * (git("status", "--porcelain") != "")
+
+
 def files_of(folder):
     """The files in a folder, in an order that is the same everywhere."""
     return sorted(path for path in folder.rglob("*") if path.is_file())
