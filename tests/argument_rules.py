@@ -41,20 +41,14 @@ def version():
 
 def operands_of(words):
     """The operands among the words after the command, or None if one of them is an option."""
-    before, after = words, []
-    if "--" in words:
-        at = words.index("--")
-        before, after = words[:at], words[at + 1 :]
-    if any(len(word) > 1 and word[0] == "-" for word in before):
-        return None
-    return before + after
+    before = [*itertools.takewhile("--".__ne__, words)]
+    has_option = any(len(word) > 1 and word[0] == "-" for word in before)
+    return None if has_option else before + words[len(before) + 1 :]
 
 
 def number_below(limit, word):
     """The number that the word spells, or None."""
-    if not re.fullmatch(r"0|[1-9][0-9]*", word) or int(word) >= limit:
-        return None
-    return int(word)
+    return int(word) if re.fullmatch(r"0|[1-9][0-9]*", word) and int(word) < limit else None
 
 
 def task_of(words):

@@ -199,18 +199,14 @@ def read_cases(*paths):
             yield dataclasses.replace(case, name=full_name(path, case))
 
 
-def unpack(case, room):
-    """Writes the files of a case to a folder of its own below `room`, and returns that."""
-    folder = pathlib.Path(room) / case.name
-    folder.mkdir(parents=True)
-    for name, text in case.files().items():
-        (folder / name).write_bytes(text)
-    return folder
-
-
 def unpacked(room, *paths):
-    """The cases of files and of all files below folders, each with the folder that its files are in, below `room`."""
-    return [(case, unpack(case, room)) for case in read_cases(*paths)]
+    """The cases of files and of all files below folders, each with a folder below `room`, to which its files are written."""
+    found = [(case, pathlib.Path(room) / case.name) for case in read_cases(*paths)]
+    for case, folder in found:
+        folder.mkdir(parents=True)
+        for name, text in case.files().items():
+            (folder / name).write_bytes(text)
+    return found
 
 
 # Writing.

@@ -51,9 +51,6 @@ class Tally:
         # The time at which the last loan of each object began.
         self.begun = {}
 
-    def count(self, name):
-        self.counts[name] += 1
-
     def end_loan(self, id, at):
         lasted = max(0, at - self.begun.get(id, at))
         self.counts["longest"] = max(self.counts["longest"], lasted)
@@ -63,11 +60,9 @@ class Tally:
         input, name = asked[0], answer[0]
         counted = {b"lent": "borrowed", b"check": "returned", b"make": "created", b"freed": "destroyed", b"reclaimed": "reclaimed"}
         if name in counted:
-            self.count(counted[name])
-        if is_evicting(name, *asked):
-            self.count("evicted")
-        if (input, name, asked[-1]) == (b"ready", b"destroy", b"testfail"):
-            self.count("borrowtestfailed")
+            self.counts[counted[name]] += 1
+        self.counts["evicted"] += is_evicting(name, *asked)
+        self.counts["borrowtestfailed"] += (input, name, asked[-1]) == (b"ready", b"destroy", b"testfail")
         if (input, name) == (b"ready", b"lent"):
             self.begun[asked[1]] = at
         if (input, name) in ((b"return", b"check"), (b"invalidate", b"destroy")):
@@ -126,10 +121,8 @@ def fault_of_table(table, keys, before=""):
 
 def numbers_in(value):
     """The whole numbers in a value of TOML."""
-    if isinstance(value, dict):
-        return [number for held in value.values() for number in numbers_in(held)]
-    if isinstance(value, list):
-        return [number for held in value for number in numbers_in(held)]
+    if isinstance(value, dict | list):
+        return [number for held in (value.values() if isinstance(value, dict) else value) for number in numbers_in(held)]
     return [value] if type(value) is int else []
 
 
