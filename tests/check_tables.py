@@ -9,8 +9,8 @@ has a row for each file of tests of the shared pool; the outstanding entries and
 docs/proof/edits.md has a row for each edit of crates/*/must-fail, in the section of its crate, which names the function that it changes, and several
 rows for one that makes a mistake in each of several functions. The name of each crate begins as its section of crates.txt requires,
 docs/dev/architecture.md has a paragraph on it, and docs/pictures/crates.svg shows what its script draws. Each move that a journal of the cases makes is
-in the table of moves in docs/guide/concepts.md, each outcome there is met by some move, and docs/pictures/life.svg shows the table. docs/guide/differences.md
-and docs/guide/commons-pool-tests.md name the same tests, for the same differences. Each ratio that the page of a language shows is that of
+in the table of moves in docs/guide/concepts.md, each outcome there is met by some move, and docs/pictures/life.svg shows the table.
+docs/guide/differences.md and docs/guide/commons-pool-tests.md name the same tests, for the same differences. Each ratio that the page of a language shows is that of
 docs/guide/speed.md, and docs/guide/platforms.md has the versions that the package files ask for; these have the licence. Each
 choice of docs/DECISIONS.md has an id of its group, and each id that a page or a source cites is there.
 """
@@ -29,7 +29,7 @@ from playing import play_checks
 import draw_graphs
 import install
 import java
-from sources import MISTAKES
+from sources import MISTAKES, libraries
 
 DEFINITIONS = TOP / "docs/proof/definitions.md"
 EDITS = TOP / "docs/proof/edits.md"
@@ -56,24 +56,15 @@ def defined():
     return found
 
 
-def told():
-    """The defaults of docs/guide/settings.md."""
-    for row in tables(TOP / "docs/guide/settings.md"):
-        for key in backquoted(row.get("Key", "")):
-            if key != "abandoned":
-                yield key, tomllib.loads(f"x = {row['Default'].strip('`')}")["x"]
-
-
-def shown():
-    """The values of examples/settings.toml, those of the table that is commented out too."""
-    text = re.sub(r"^#(?=\[abandoned\]$|\w+ = )", "", (TOP / "examples/settings.toml").read_text(), flags=re.MULTILINE)
-    for key, value in tomllib.loads(text).items():
-        yield from ((f"{key}.{name}", inner) for name, inner in value.items()) if isinstance(value, dict) else [(key, value)]
-
-
 def check_settings():
+    """The defaults of the page, and the values of the example, those of the table that is commented out too."""
+    rows = [(key, row["Default"].strip("`")) for row in tables(TOP / "docs/guide/settings.md") for key in backquoted(row.get("Key", ""))]
+    told = {key: tomllib.loads(f"x = {value}")["x"] for key, value in rows if key != "abandoned"}
+    text = re.sub(r"^#(?=\[abandoned\]$|\w+ = )", "", (TOP / "examples/settings.toml").read_text(), flags=re.MULTILINE)
+    shown = tomllib.loads(text)
+    shown |= {f"abandoned.{name}": value for name, value in shown.pop("abandoned").items()}
     wanted = defined()
-    for where, found in (("docs/guide/settings.md", dict(told())), ("examples/settings.toml", dict(shown()))):
+    for where, found in ("docs/guide/settings.md", told), ("examples/settings.toml", shown):
         for key in sorted({*wanted, *found}):
             yield f"{where}: {key}", wanted.get(key, "no key"), found.get(key, "no key")
 
@@ -124,7 +115,7 @@ def check_life():
     table = {(before, name, outcome, *after) for before, (name, *outcomes), *after in rows for outcome in outcomes or [""]}
     seen = {move: name for name, journal in journals().items() for move in moves(journal)}
     for move in sorted(table | seen.keys()):
-        yield f"docs/guide/concepts.md: {' '.join(move)}: is in {seen.get(move, 'a journal')}", (True, True), (move in table, move in seen)
+        yield f"docs/guide/concepts.md: {' '.join(move)}: in {seen.get(move, 'a journal')}", (True, True), (move in table, move in seen)
     shown = draw_graphs.shown((TOP / "docs/pictures/life.svg").read_text())
     yield "docs/pictures/life.svg shows what docs/pictures/draw_graphs.py draws", draw_graphs.life(page).wanted(), shown
 
@@ -136,17 +127,8 @@ def check_trials():
         yield f"docs/dev/trials.md: {name}: a file and a row", (True, True), (name in files, name in rows)
 
 
-def room_of_steps(weights):
-    """The room that each step of docs/guide/operations.md needs: its entry, and the rise in the number of outstanding entries."""
-    return {
-        "`borrow` that makes an object": 1 + weights["Readying"],
-        "`borrow` that takes an idle object": 1 + weights["Readying"] - weights["Idle"],
-        "`add` or `fill` that makes an object": 1 + weights["Adding"],
-        "`evictnext` that tests an idle object": 1 + weights["Testing"] - weights["Idle"],
-    }
-
-
 def check_room():
+    """The outstanding entries of each phase, and the room that each step needs: its entry, and the rise in the number of outstanding entries."""
     text = (TOP / "crates/pool_places/specs/Counts.antt").read_text()
     weights = {phase: int(number) for phase, number in re.findall(r"^max_remaining phases\.(\w+) = ([1-9]\d*)$", text, flags=re.MULTILINE)}
     rows = list(tables(TOP / "docs/guide/operations.md"))
@@ -155,15 +137,14 @@ def check_room():
     for phase in sorted({*weights, *found}):
         yield f"docs/guide/operations.md: {phase}", weights.get(phase), found.get(phase)
     needed = {row["Step"]: int(row["Room it needs"]) for row in rows if "Room it needs" in row}
-    for step, number in room_of_steps(weights).items():
+    steps = {
+        "`borrow` that makes an object": 1 + weights["Readying"],
+        "`borrow` that takes an idle object": 1 + weights["Readying"] - weights["Idle"],
+        "`add` or `fill` that makes an object": 1 + weights["Adding"],
+        "`evictnext` that tests an idle object": 1 + weights["Testing"] - weights["Idle"],
+    }
+    for step, number in steps.items():
         yield f"docs/guide/operations.md: {step}", number, needed.get(step)
-
-
-def edits_in_order():
-    """The edits of all crates by crate and name: the crates in the order of crates.txt, the edits of each by name."""
-    crates = re.findall(r"^(\w+)", (TOP / "crates.txt").read_text(), flags=re.MULTILINE)
-    edits = {(path.parent.parent.name, path.stem): path for path in TOP.glob("crates/*/must-fail/*.edit")}
-    return {edit: edits[edit] for edit in sorted(edits, key=lambda edit: (crates.index(edit[0]), edit[1]))}
 
 
 def listed_edits():
@@ -175,24 +156,20 @@ def listed_edits():
                 yield (crate, backquoted(row["Edit"])[0]), backquoted(row["Function"])
 
 
-def functions_of(path):
-    """The functions whose lines an edit replaces."""
-    crate = path.parent.parent
-    return {function_at(file, (crate / file).read_text().partition(old)[0]).rpartition("::")[2] for file, old, _ in replacements(path)}
-
-
 def fault_of_rows(path, rows):
     """Why the functions of an edit's rows are wrong. Those of a row are the ones that it changes, after the public one that calls them if they are private."""
-    lists = [[function.split("::")[-1] for function in functions] for functions in rows]
-    changed, named = functions_of(path), {function for functions in lists for function in functions}
+    crate, lists = path.parent.parent, [[function.split("::")[-1] for function in functions] for functions in rows]
+    places = ((file, (crate / file).read_text().partition(old)[0]) for file, old, _ in replacements(path))
+    changed, named = {function_at(*place).rpartition("::")[2] for place in places}, {function for functions in lists for function in functions}
     if not {function for functions in lists for function in functions[1:] or functions} <= changed <= named:
         return f"{' '.join(sorted(named))}, it changes {' '.join(sorted(changed))}"
-    code = "\n".join(source.read_text() for source in path.parent.parent.glob("src/*.rt"))
+    code = "\n".join(source.read_text() for source in crate.glob("src/*.rt"))
     return next((f"{public} is no function of the crate" for public, *_ in lists if not re.search(rf"\bfn {public}\b", code)), None)
 
 
 def check_edits():
-    edits, rows = edits_in_order(), list(listed_edits())
+    """Each edit has its rows: the crates in the order of crates.txt, the edits of each by name."""
+    edits, rows = {(path.parent.parent.name, path.stem): path for path in TOP.glob("crates/*/must-fail/*.edit")}, list(listed_edits())
     for edit in sorted({*edits, *(edit for edit, _ in rows)}):
         functions = [named for listed, named in rows if listed == edit]
         if edit not in edits or not functions or (len(functions) > 1 and edit[1] != MISTAKES):
@@ -200,7 +177,9 @@ def check_edits():
         else:
             fault = fault_of_rows(edits[edit], functions)
         yield f"docs/proof/edits.md: {', '.join(edit)}", None, fault
-    yield "docs/proof/edits.md: the order of crates.txt and of names", list(edits), [*dict.fromkeys(edit for edit, _ in rows)]
+    crates = list(libraries())
+    order = sorted(edits, key=lambda edit: (crates.index(edit[0]), edit[1]))
+    yield "docs/proof/edits.md: the order of crates.txt and of names", order, [*dict.fromkeys(edit for edit, _ in rows)]
 
 
 def check_crates():
