@@ -87,30 +87,14 @@ def texts_of(case):
     return [text for text, _ in case.segments]
 
 
-def of_cases(judge, cases):
-    chance = Chance(5)
-    for case, settings, paths in segmented(cases):
-        yield of_case, judge, case, settings, paths, chance
-
-
 def of_case(judge, case, settings, paths, chance):
     reached = reached_by(judge, settings, paths, chance)
     wrong = are_joined(texts_of(case), reached) != is_legal(case)
     return [f"{case.name}: legal is {is_legal(case)}, reached {reached}"] * wrong
 
 
-# How many places there are after a change of the settings, by the number of the case, modulo 2.
-FEWER = (1, 0)
-
-
-def of_changes(judge, program, cases):
-    for number, (case, _, _) in enumerate(segmented(cases)):
-        if is_legal(case) and sum(text.count(b" = ") for text in texts_of(case)) > 1:
-            yield of_change, judge, program, case, FEWER[number % 2]
-
-
 def of_change(judge, program, case, places):
-    """What differs where the settings change in the middle of a case."""
+    """What differs where the settings change in the middle of a case, after which there are so many places."""
     pool = Pool(settings_of(case.settings.decode()))
     requests = [request for text in texts_of(case) for request in text.removeprefix(base_lines(text)).splitlines()]
     middle = len(requests) // 2
@@ -195,12 +179,6 @@ def scripts_of_page():
     return ["\n".join([made, *way, *join]) for way in ([processes], by_parallel, by_tasks)], job
 
 
-def of_page(judge, cases):
-    scripts, job = scripts_of_page()
-    for (case, _, _), script in itertools.product(segmented(cases), scripts):
-        yield of_commands, judge, script, job, case
-
-
 def of_commands(judge, script, job, case):
     """Checks and joins segments by the page's commands. A first one without a base gets the line of the base before all entries."""
     with scratch() as room:
@@ -219,12 +197,9 @@ def of_commands(judge, script, job, case):
     return [f"{case.name}, by the commands of the page: legal is {is_legal(case)}, {done}"] * (not is_right)
 
 
-def of_damage(judge, pool, settings):
-    for name, segments in damaged_segments():
-        yield of_segments, judge, pool, name, settings, segments, verdict_of_segments(settings_of(""), segments).startswith(b"legal")
-
-
-def of_segments(judge, pool, name, settings, segments, legal):
+def of_segments(judge, pool, name, settings, segments):
+    """What differs where segments are judged with the default settings."""
+    legal = verdict_of_segments(settings_of(""), segments).startswith(b"legal")
     with scratch() as room:
         paths = write_files(room, dict(enumerate(segments)))
         joined = are_joined(segments, reached_by(judge, settings, paths, Chance(len(name))))
@@ -285,14 +260,6 @@ def is_help(output, told, status):
     return (named, told, status) == (["judge SETTINGS SEGMENT", "judge --help", "judge --version"], b"", 0)
 
 
-def of_refusals(judge, cases, room):
-    """The segments that another one follows, of the legal journals among the first twelve."""
-    library, marks = preloaded("refuse", room), itertools.count()
-    for case, settings, paths in itertools.islice(segmented(cases), 12):
-        for path, following in zip(paths, texts_of(case)[1:]) if is_legal(case) else ():
-            yield of_refused, [judge, settings, path], base_lines(following), library, room / f"refused-{next(marks)}"
-
-
 def of_refused(command, wanted, library, mark):
     """What differs where each allocation is refused in turn, and where none is. The first cannot be done without."""
     found = []
@@ -304,11 +271,27 @@ def of_refused(command, wanted, library, mark):
     return found if number else [f"{command[2]}: no allocation"]
 
 
+def trials(judge, pool, cases, defaults, room):
+    """All trials: each a function and its arguments."""
+    chance, (scripts, job), (library, marks) = Chance(5), scripts_of_page(), (preloaded("refuse", room), itertools.count())
+    for number, (case, settings, paths) in enumerate(cases):
+        yield of_case, judge, case, settings, paths, chance
+        if is_legal(case) and sum(text.count(b" = ") for text in texts_of(case)) > 1:
+            yield of_change, judge, pool, case, 1 - number % 2
+        yield from ((of_commands, judge, script, job, case) for script in scripts)
+    for name, segments in damaged_segments():
+        yield of_segments, judge, pool, name, defaults, segments
+    yield from [(of_beside, pool), (of_uses, judge, defaults)]
+    # The segments that another one follows, of the legal journals among the first twelve.
+    for case, settings, paths in cases[:12]:
+        for path, following in zip(paths, texts_of(case)[1:]) if is_legal(case) else ():
+            yield of_refused, [judge, settings, path], base_lines(following), library, room / f"refused-{next(marks)}"
+
+
 def main(judge, pool, *words):
     with scratch() as room:
-        cases, (defaults,) = unpacked(room, *words), write_files(room, {"defaults.toml": b""})
-        trials = [*of_cases(judge, cases), *of_changes(judge, pool, cases), (of_beside, pool), *of_page(judge, cases), *of_damage(judge, pool, defaults), (of_uses, judge, defaults)]
-        return play_trials([*trials, *of_refusals(judge, cases, room)])
+        cases, (defaults,) = list(segmented(unpacked(room, *words))), write_files(room, {"defaults.toml": b""})
+        return play_trials(list(trials(judge, pool, cases, defaults, room)))
 
 
 if __name__ == "__main__":

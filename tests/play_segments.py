@@ -82,11 +82,6 @@ def segmented(cases):
             yield case, folder / "settings.toml", [folder / f"{number}.journal" for number in range(len(case.segments))]
 
 
-def of_segmented(pool, cases):
-    for case, settings, segments in segmented(cases):
-        yield checked_anyhow, case.name, [pool, "check", settings, *segments], wanted_of(case.verdict)
-
-
 def ways(segments, chance):
     """The segments as they are, and with one lost, where others are left, repeated, or exchanged with the next."""
     at = chance.below(len(segments))
@@ -108,13 +103,6 @@ def of_journal(pool, case, settings, chance):
         yield judged, pool, f"{case.name}, {how}", settings, segments, verdict_of_segments(read, segments)
 
 
-def of_cases(pool, cases):
-    chance = Chance(7)
-    for case, folder in cases:
-        if case.is_run:
-            yield from of_journal(pool, case, folder / "settings.toml", chance)
-
-
 def damaged_segments():
     """The segments THREE with each of their bytes damaged, each with a name."""
     chance = Chance(11)
@@ -122,12 +110,6 @@ def damaged_segments():
         for at in range(len(text)):
             for changed in damaged(text, at, chance):
                 yield f"segment {index}, byte {at}", [*THREE[:index], changed, *THREE[index + 1 :]]
-
-
-def of_damage(pool, settings):
-    read = settings_of("")
-    for name, segments in damaged_segments():
-        yield judged, pool, name, settings, segments, verdict_of_segments(read, segments), checked_anyhow
 
 
 def peak(room, command, on=None):
@@ -157,10 +139,22 @@ def play_trials(trials):
     return tell(side_by_side(lambda trial: trial[0](*trial[1:]), trials), 100)
 
 
+def trials(pool, cases, defaults):
+    """All trials: each a function and its arguments."""
+    for case, settings, segments in segmented(cases):
+        yield checked_anyhow, case.name, [pool, "check", settings, *segments], wanted_of(case.verdict)
+    chance, read = Chance(7), settings_of("")
+    for case, folder in cases:
+        yield from of_journal(pool, case, folder / "settings.toml", chance) if case.is_run else ()
+    for name, segments in damaged_segments():
+        yield judged, pool, name, defaults, segments, verdict_of_segments(read, segments), checked_anyhow
+    yield of_memory, pool, defaults
+
+
 def main(pool, *paths):
     with scratch() as room:
         cases, (defaults,) = unpacked(room, *paths), write_files(room, {"defaults.toml": b""})
-        return play_trials([*of_segmented(pool, cases), *of_cases(pool, cases), *of_damage(pool, defaults), (of_memory, pool, defaults)])
+        return play_trials(list(trials(pool, cases, defaults)))
 
 
 if __name__ == "__main__":
