@@ -221,10 +221,7 @@ def play_side_by_side(counter):
         opened, again = 1 + segments, max(0, segments - KEPT)
         # On one processor a base is compared as it is read.
         counter.expect(f"{name}: files opened", counted["opened"], opened + again, opened + 2 * again)
-
-
-def play_lost(counter):
-    """An error in the last of several segments: no file is opened again to find out which one it is in."""
+    # An error in the last of several segments: no file is opened again to find out which one it is in.
     names, _ = write_segments(counter, 12, 100)
     with (counter.folder / names[-1]).open("a") as last:
         last.write("no line\n")
@@ -260,14 +257,6 @@ def allocations_of_calls(counter, tally, name, texts, wanted):
     return found
 
 
-def play_uses(counter, tally):
-    """A cut of many entries without an object takes one list, that of the entries that are owed."""
-    uses = b"".join(b"7 %d use %d = refused notlent\n" % (i, i) for i in range(300_000))
-    texts = uses, b"pool-journal 2 300000 0 open none 0 0 0 0\n"
-    found = allocations_of_calls(counter, tally, "300,000 uses", texts, b"opened 300000 0 0 0 0 0 0 0\n")
-    counter.expect("a cut of 300,000 uses: allocations", found["cut"], 1, 1)
-
-
 def play_objects(counter, tally, objects):
     """A cut takes that list and one of the objects' records, for however many objects and entries."""
     segments, pool = segments_of(settings_of(NO_LIMITS), objects)
@@ -286,7 +275,11 @@ def play_objects(counter, tally, objects):
 
 
 def play_cuts(counter, tally):
-    play_uses(counter, tally)
+    """A cut of many entries without an object takes one list, that of the entries that are owed."""
+    uses = b"".join(b"7 %d use %d = refused notlent\n" % (i, i) for i in range(300_000))
+    texts = uses, b"pool-journal 2 300000 0 open none 0 0 0 0\n"
+    found = allocations_of_calls(counter, tally, "300,000 uses", texts, b"opened 300000 0 0 0 0 0 0 0\n")
+    counter.expect("a cut of 300,000 uses: allocations", found["cut"], 1, 1)
     for objects in (1, 100, 10_000, 100_000):
         play_objects(counter, tally, objects)
 
@@ -300,7 +293,6 @@ def main(pool, tally):
                 counter.play(script, command)
         play_endless(counter)
         play_side_by_side(counter)
-        play_lost(counter)
         play_cuts(counter, str(pathlib.Path(tally).resolve()))
     return tell(counter.found)
 

@@ -3,9 +3,9 @@
 
     play_c_pool.py LIBRARY POOL JUDGE
 
-LIBRARY is libzuphinka.a, as `rt lib` builds it, and POOL and JUDGE are the programs `pool` and `judge`. The C compiler that CC names, or cc, compiles the pool with the
-program, with warnings as errors. The header must compile by itself as C99, C11 and C++ too, with more warnings, and each of its codes is named after
-its enum.
+LIBRARY is libzuphinka.a, as `rt lib` builds it, and POOL and JUDGE are the programs `pool` and `judge`. The C compiler that CC names, or cc, compiles
+the pool with the program, with warnings as errors. The header must compile by itself as C99, C11 and C++ too, with more warnings, and each of its codes
+is named after its enum.
 
 - Each test of the program must pass.
 - A pool whose `store` fails at each call in turn must store its whole journal in the end.

@@ -104,25 +104,21 @@ def segments(settings, journal, every):
     return cut_at(settings_of(settings.read_text()), journal, set(range(every, journal.count(b"\n"), every)))
 
 
-def verdict(pool, settings, parts):
-    """What the program says of segments."""
-    with scratch() as folder:
-        return run(pool, "check", settings, *write_files(folder, dict(enumerate(parts))))
-
-
 def differing_segments(play, pool, name, settings, script, every, parts):
     """What differs where a script is cut, and where its segments are judged; `parts` are those that are wanted."""
     done = run(play, settings, script, str(every))
     found = [b"pool-journal " + part for part in done.stdout.split(b"pool-journal ")[1:]]
     entries = sum(part.count(b" = ") for part in parts)
-    told = differing(f"{name}, judged", (b"legal %d\n" % entries, b"", 0), verdict(pool, settings, found))
+    with scratch() as folder:
+        verdict = run(pool, "check", settings, *write_files(folder, dict(enumerate(found))))
+    told = differing(f"{name}, judged", (b"legal %d\n" % entries, b"", 0), verdict)
     return told + differing(f"{name}, cut every {every}", (b"".join(parts), b"", 0), done)
 
 
 def cut_cases(play, pool, case):
     """What differs where a case is cut."""
     name, settings, script, (journal, _, _) = case
-    return [line for every in EVERY for line in differing_segments(play, pool, name, settings, script, every, segments(settings, journal, every))]
+    return sum((differing_segments(play, pool, name, settings, script, every, segments(settings, journal, every)) for every in EVERY), [])
 
 
 def many_differing(play, pool):
@@ -150,19 +146,6 @@ def long_differing(life, pool, before, rounds):
         return found + differing("long_life, judged", (b"legal %d\n" % (4 * rounds + 4), b"", 0), run(pool, "check", settings, *paths))
 
 
-def many_runs(play, life, pool):
-    """What differs in a run over many objects and in long lives."""
-    yield many_differing(play, pool)
-    yield long_differing(life, pool, [], ROUNDS)
-    if has("long_life under valgrind", "valgrind"):
-        yield long_differing(life, pool, VALGRIND, ROUNDS // 10)
-
-
-def doublings(length):
-    """How often a list doubles at most until it has this length."""
-    return length.bit_length()
-
-
 def told_by_crowd(words):
     """The numbers that tests/crowd.c prints, or `None`, and what differs from a run without a fault."""
     done = run(*words)
@@ -178,9 +161,10 @@ def unrefused_crowd(crowd, size):
         return 0, differs
     waits, ended, waited, first, served, by_pairs = numbers
     lists = 1 if size <= TICKETS else 3  # the calls in progress; and the tickets, in two lists
-    bounds = {"those that wait": (waits, size, size), "those that ended": (ended, 0, 0), "allocations": (waited, 1, lists * doublings(size) + 2)}
-    bounds["allocations of the first"] = first, 0, doublings(TICKETS) + 2
-    bounds["allocations after the borrows"] = served + by_pairs, 1, doublings(4 * (size + 1_000)) + 2
+    # A list doubles at most as often as its length has bits.
+    bounds = {"those that wait": (waits, size, size), "those that ended": (ended, 0, 0), "allocations": (waited, 1, lists * size.bit_length() + 2)}
+    bounds["allocations of the first"] = first, 0, TICKETS.bit_length() + 2
+    bounds["allocations after the borrows"] = served + by_pairs, 1, (4 * (size + 1_000)).bit_length() + 2
     return waited, [f"crowd {size}: {what}: {number}, not {least} to {most}" for what, (number, least, most) in bounds.items() if not least <= number <= most]
 
 
@@ -276,7 +260,9 @@ def main(kind, library, words):
             return tell(crowds(compiled("crowd", library, built, REFUSING, TOP / "tests")))
         play = compiled("play", library, built, REFUSING, TOP / "tests")
         if kind == "many":
-            return tell(many_runs(play, compiled("long_life", library, built, []), *words))
+            life, (pool,) = compiled("long_life", library, built, []), words
+            found = [many_differing(play, pool), long_differing(life, pool, [], ROUNDS)]
+            return tell([*found, *([long_differing(life, pool, VALGRIND, ROUNDS // 10)] if has("long_life under valgrind", "valgrind") else [])])
         if kind == "programs":
             life, long = (compiled(name, library, built, []) for name in ("plain_life", "long_life"))
             header = header_runs(built, "zuphinka.h", "return zuphinka_status_text(0) == 0;")
