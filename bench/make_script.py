@@ -60,11 +60,7 @@ class Busy:
         return self.random.choice(may)(at)
 
 
-def write_script(lines, seed):
-    busy = Busy(seed)
-    for at in range(lines):
-        sys.stdout.write(f"{busy.random.randrange(4)} {at} {busy.line(at)}\n")
-
-
 if __name__ == "__main__":
-    write_script(*map(int, sys.argv[1:]))
+    lines, seed = map(int, sys.argv[1:])
+    busy = Busy(seed)
+    sys.stdout.writelines(f"{busy.random.randrange(4)} {at} {busy.line(at)}\n" for at in range(lines))

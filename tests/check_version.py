@@ -5,7 +5,8 @@ header, the C library, the programs, the man page and the change log.
     check_version.py [PROGRAM..]
 
 Each constant VERSION in the sources of a crate is what a program prints: its name, the version and a line feed. Of the PROGRAMs, paths of
-such programs, that is what `--version` prints. What the C library returns, and its contract, is the version as one number. Prints each that differs, and in the end the line 'N passed, M failed'.
+such programs, that is what `--version` prints. What the C library returns, and its contract, is the version as one number. Prints each that differs, and
+in the end the line 'N passed, M failed'.
 """
 
 import pathlib
@@ -63,9 +64,5 @@ def checks(version, programs):
         yield f"{program} --version", wanted, subprocess.run([program, "--version"], capture_output=True, text=True, stdin=subprocess.DEVNULL).stdout
 
 
-def main(programs):
-    return play_checks(checks((TOP / "VERSION").read_text().removesuffix("\n"), programs))
-
-
 if __name__ == "__main__":
-    sys.exit(main(sys.argv[1:]))
+    sys.exit(play_checks(checks((TOP / "VERSION").read_text().removesuffix("\n"), sys.argv[1:])))

@@ -13,17 +13,14 @@ from case_files import wanted_of
 from pool_model import settings_of, verdict_of_segments
 
 
-def beside_of(segment):
-    """The file with the settings that begin with a segment."""
-    return segment.with_name(segment.name.replace("segment-", "settings-", 1) + ".toml")
-
-
 def main(command, settings, *journals):
     if command != "check":
         sys.exit(__doc__.strip())
-    texts = [pathlib.Path(name).read_bytes() for name in journals]
-    beside = {index: path for index, name in enumerate(journals) if (path := beside_of(pathlib.Path(name))).is_file()}
-    changes = {index: settings_of(path.read_text()) for index, path in beside.items()}
+    paths = [pathlib.Path(name) for name in journals]
+    # The settings that begin with a segment are in a file beside it.
+    beside = {index: path.with_name(path.name.replace("segment-", "settings-", 1) + ".toml") for index, path in enumerate(paths)}
+    changes = {index: settings_of(path.read_text()) for index, path in beside.items() if path.is_file()}
+    texts = [path.read_bytes() for path in paths]
     output, error, status = wanted_of(verdict_of_segments(settings_of(pathlib.Path(settings).read_text()), texts, changes))
     sys.stdout.buffer.write(output)
     sys.stderr.buffer.write(error)

@@ -69,15 +69,13 @@ def plays(cases):
     return ((case.name, *play) for case, folder in cases for play in plays_of_case(case, folder))
 
 
-def differences(pool, play):
-    """What is wanted and what is got, where they differ."""
-    name, arguments, text, wanted = play
-    return differing(f"{name}: {arguments[0]}", wanted, run(pool, *arguments, input=text))
+def main(pool, *paths):
+    def differences(play):
+        name, arguments, text, wanted = play
+        return differing(f"{name}: {arguments[0]}", wanted, run(pool, *arguments, input=text))
 
-
-def main(pool, paths):
-    return play_unpacked(paths, plays, lambda play: differences(pool, play))
+    return play_unpacked(paths, plays, differences)
 
 
 if __name__ == "__main__":
-    sys.exit(main(sys.argv[1], sys.argv[2:]))
+    sys.exit(main(*sys.argv[1:]))

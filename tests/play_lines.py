@@ -131,17 +131,18 @@ def of_changed_journals():
         yield ["check", "defaults"], PLAIN_LIFE[:at] + b"x" + PLAIN_LIFE[at + 1 :], told_of(1 + PLAIN_LIFE[:at].count(b"\n"), what)
 
 
-def differences(pool, folder, number, words, text, wanted):
-    """What is wanted and what is got, where they differ. Each case has a file of its own."""
-    write_files(folder, {number: text})
-    return differing(f"{' '.join(words)} of {text!r}", wanted, run(pool, *words, str(number), cwd=folder))
-
-
 def main(pool):
-    cases = enumerate(itertools.chain(of_scripts(), of_journals(), of_cut_journals(), of_changed_journals()))
+    program, cases = pathlib.Path(pool).resolve(), itertools.chain(of_scripts(), of_journals(), of_cut_journals(), of_changed_journals())
     with scratch() as folder:
         write_files(folder, {"defaults": b"", "first": FIRST_SEGMENT})
-        return tell(side_by_side(lambda case: differences(pathlib.Path(pool).resolve(), folder, case[0], *case[1]), cases))
+
+        def differences(number, case):
+            """What differs in a case, which has a file of its own."""
+            words, text, wanted = case
+            write_files(folder, {number: text})
+            return differing(f"{' '.join(words)} of {text!r}", wanted, run(program, *words, str(number), cwd=folder))
+
+        return tell(side_by_side(differences, itertools.count(), cases))
 
 
 if __name__ == "__main__":

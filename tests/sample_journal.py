@@ -49,11 +49,6 @@ class Sample:
             self.waiting = []
         return answer
 
-    def pause(self, at):
-        """For how long a caller does without an object."""
-        is_busy = any(begin <= at < end for begin, end in BURSTS)
-        return 100 + self.chance.below(1_800 if is_busy else 9_000)
-
     def borrow(self, at, caller, began):
         answer = self.ask(caller, at, b"borrow", began)
         if answer[0] == b"wait":
@@ -70,7 +65,9 @@ class Sample:
             self.borrow(at, caller, began)
 
     def begin(self, at, caller):
-        at += self.pause(at)
+        """A caller borrows once it has done without an object for a while."""
+        is_busy = any(begin <= at < end for begin, end in BURSTS)
+        at += 100 + self.chance.below(1_800 if is_busy else 9_000)
         if at < END:
             self.later(at, self.borrow, caller, at)
 

@@ -35,11 +35,6 @@ def crate_of(name):
     return crate
 
 
-def build_library(crate, flags):
-    """Proves a library and writes its statements, and returns the kit's status."""
-    return crate.call(rtlib().RATTLE, "build", *crate.words(flags, keeps=False), "--statements", "-o", crate.rlib)
-
-
 def build_program(crate, flags):
     """Proves, compiles and links a program, and returns the kit's status."""
     kit, program = rtlib().KIT, f"out/{crate.name}"
@@ -57,8 +52,12 @@ def main():
     product = sources.product(crate.name)
     shutil.rmtree(product, ignore_errors=True) if product.is_dir() else product.unlink(missing_ok=True)
     product.parent.mkdir(parents=True, exist_ok=True)
-    build = build_program if crate.is_program else type(crate).build_static if crate.is_static else build_library
-    return build(crate, flags)
+    if crate.is_program:
+        return build_program(crate, flags)
+    if crate.is_static:
+        return crate.build_static(flags)
+    # It writes the library's statements alone.
+    return crate.call(rtlib().RATTLE, "build", *crate.words(flags, keeps=False), "--statements", "-o", crate.rlib)
 
 
 if __name__ == "__main__":

@@ -27,14 +27,11 @@ class Package:
             return any(pathlib.Path("/").glob(self.sign[1:]))
         return shutil.which(self.sign) is not None
 
-    def is_for(self, parts):
-        """Whether one of the parts of these names needs it."""
-        return not self.parts or not set(self.parts).isdisjoint(parts)
-
 
 def lacking(packages, parts):
     """The names of the packages that the parts of these names need, and that are missing."""
-    return [package.name for package in packages if package.is_for(parts) and not package.is_there()]
+    needed = [package for package in packages if not package.parts or not {*package.parts}.isdisjoint(parts)]
+    return [package.name for package in needed if not package.is_there()]
 
 
 def prefix(user):

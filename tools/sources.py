@@ -52,11 +52,6 @@ def with_mistakes():
     return [crate for crate in sorted(declared()) if edit_with_mistakes(crate).is_file()]
 
 
-def is_static(crate):
-    """Whether a crate is a static library."""
-    return "staticlib" in declared()[crate][0].split()
-
-
 def is_program(crate):
     """Whether a crate is a program."""
     return (TOP / "crates" / crate / "src" / "main.rt").exists()
@@ -72,7 +67,7 @@ def product(crate):
     out = TOP / "crates" / crate / "out"
     if is_program(crate):
         return out / crate
-    return out / f"lib{crate}.a" if is_static(crate) else library(crate)
+    return out / f"lib{crate}.a" if "staticlib" in declared()[crate][0].split() else library(crate)
 
 
 @functools.cache
