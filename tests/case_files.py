@@ -9,6 +9,7 @@ with `settings.toml`, and with those of these files that it has: `script`, `jour
 """
 
 import dataclasses
+import functools
 import pathlib
 import re
 import sys
@@ -18,11 +19,6 @@ from case_model import SHORT, STATISTICS
 
 TOP = pathlib.Path(__file__).resolve().parent.parent
 CASES = TOP / "tests/cases"
-# The keys of a case in their order, a space after each.
-ORDER = re.compile(
-    r"settings answer |(settings )?"
-    r"(run (rest error )?statistics (changed verdict )?|claim verdict |segments statistics (verdict )?)"
-)
 # Bytes that are no part of UTF-8, as Python decodes them.
 NO_TEXT = re.compile("([\udc80-\udcff])")
 ESCAPED = SHORT | {'"': '\\"'}
@@ -81,21 +77,11 @@ class Case:
             texts |= {f"{number}.journal": text, f"{number}.statistics": statistics}
         return {name: text for name, text in texts.items() if text is not None}
 
-    def fault(self):
-        """What is wrong with the texts, or `None`."""
-        if any(b" = " not in line or not line.endswith(b"\n") for line in lines_of(self.journal or b"")):
-            return "a line of 'run' has no answer, or no end"
-        if not re.match(rb"pool: ", self.error or b"pool: "):
-            return "an error begins with 'pool: '"
-        if not re.match(rb"legal |illegal |pool: ", self.verdict or b"legal "):
-            return "a verdict begins with 'legal', 'illegal' or 'pool:'"
-        if not re.match(rb"ok\n|pool: ", self.answer or b"ok\n"):
-            return "an answer is 'ok', or begins with 'pool: '"
+    def has_ordered_changes(self):
+        """Whether the changes are of lines of the journal, in their order."""
         ends = [0, *(last for _, last, _ in self.changes), len(lines_of(self.journal or b""))]
         starts = [first for first, _, _ in self.changes]
-        if any(not before < first <= last + 1 for before, first, last in zip(ends, starts, ends[1:])) or ends[-2] > ends[-1]:
-            return "changes are of lines of the journal, in their order"
-        return None
+        return all(before < first <= last + 1 for before, first, last in zip(ends, starts, ends[1:])) and ends[-2] <= ends[-1]
 
 
 def lines_of(text):
@@ -130,8 +116,6 @@ def statistics_text(value):
     """The nine lines of statistics of which those that aren't 0 are named, or the program's line."""
     if isinstance(value, str):
         return line_of(value)
-    if not all(name in STATISTICS and isinstance(count, int) and count > 0 for name, count in value.items()):
-        raise ValueError("statistics are those that aren't 0, by their names")
     return "".join(f"{name} {value.get(name, 0)}\n" for name in STATISTICS).encode()
 
 
@@ -150,18 +134,15 @@ def case_of(name, place, table):
 
 
 def checked_case(name, place, table):
-    """The case of a table, or an error."""
-    if not re.fullmatch(r"[\w-]+", name):
-        raise CaseError(f"{place}: a name is of letters, digits, '_' and '-'")
-    if not isinstance(table, dict) or not ORDER.fullmatch("".join(f"{key} " for key in table)):
-        raise CaseError(f"{place}: no case has the keys {' '.join(table) or 'none'}")
+    """The case of a table, or an error. The keys are those that are written of the case. What else is wrong is made otherwise by make_cases.py."""
     try:
         case = case_of(name, place, table)
-        fault = case.fault()
     except (TypeError, ValueError, AttributeError) as error:
         raise CaseError(f"{place}: {error}") from None
-    if fault:
-        raise CaseError(f"{place}: {fault}")
+    if not table or list(table) != [key for key, *_ in parts_of(case)]:
+        raise CaseError(f"{place}: no case has the keys {' '.join(table) or 'none'}")
+    if not case.has_ordered_changes():
+        raise CaseError(f"{place}: changes are of lines of the journal, in their order")
     return case
 
 
@@ -243,29 +224,38 @@ def written_statistics(text):
     return "{" + ", ".join(f"{name} = {count}" for name, count in counts if count != "0") + "}"
 
 
-def written_list(values):
-    return "[\n" + "".join(f"{value},\n" for value in values) + "]"
+def written_list(write, values):
+    return "[\n" + "".join(f"{write(value)},\n" for value in values) + "]"
 
 
-def written_case(case):
-    """The lines of a case."""
-    texts = {"settings": case.settings if case.settings or case.answer is not None else None, "run": case.journal}
-    texts |= {"rest": None if case.error is None else case.rest, "claim": case.whole_claim}
-    values = {key: written_text(text) for key, text in texts.items() if text is not None}
-    values |= {"error": written_line(case.error)} if case.error is not None else {}
-    values |= {"statistics": written_statistics(case.statistics)} if case.statistics is not None else {}
-    if case.changes:
-        values["changed"] = written_list(f"[{first}, {last}, {written_text(text)}]" for first, last, text in case.changes)
-    if case.segments:
-        values["segments"] = written_list(written_text(text) for text, _ in case.segments)
-        values["statistics"] = written_list(written_statistics(statistics) for _, statistics in case.segments)
-    values |= {key: written_line(text) for key, text in (("verdict", case.verdict), ("answer", case.answer)) if text is not None}
-    return [f"[{case.name}]", *(f"{key} = {value}" for key, value in values.items())]
+def written_change(change):
+    first, last, text = change
+    return f"[{first}, {last}, {written_text(text)}]"
+
+
+def parts_of(case):
+    """What is written of a case: each key in its order, with a function and what that writes."""
+    texts, statistics = ([*parts] for parts in zip(*case.segments)) if case.segments else (None, None)
+    parts = [
+        ("settings", written_text, case.settings if case.settings or case.answer is not None else None),
+        ("run", written_text, case.journal),
+        ("rest", written_text, None if case.error is None else case.rest),
+        ("claim", written_text, case.whole_claim),
+        ("error", written_line, case.error),
+        ("statistics", written_statistics, case.statistics),
+        ("changed", functools.partial(written_list, written_change), case.changes or None),
+        ("segments", functools.partial(written_list, written_text), texts),
+        ("statistics", functools.partial(written_list, written_statistics), statistics),
+        ("verdict", written_line, case.verdict),
+        ("answer", written_line, case.answer),
+    ]
+    return [part for part in parts if part[2] is not None]
 
 
 def written(heading, cases):
     """The text of a file with this heading and these cases."""
-    return "\n".join([*heading, *(line for case in cases for line in ["", *written_case(case)]), ""])
+    lines = (line for case in cases for line in ["", f"[{case.name}]", *(f"{key} = {write(part)}" for key, write, part in parts_of(case))])
+    return "\n".join([*heading, *lines, ""])
 
 
 def main():

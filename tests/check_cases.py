@@ -32,29 +32,18 @@ verdict = "illegal 0 make 0"
 SEGMENTS = '[one]\nsegments = ["0 0 add = make 0\\\\n"]\nstatistics = [{created = 1}]\n'
 # Edits of that file, each with a part of the error.
 FAULTS = (
-    ("[one]\n", "", "settings: no case has the keys"),
+    ("[one]\n", "", "no attribute"),
     ("[one]", "[o ne]", "line 3"),
-    ("[one]", '["o ne"]', "a name is of letters"),
     ("settings", "setting", "no case has the keys"),
     ('"maxTotal = 1\\n"', "1", "object is not iterable"),
     ('"maxTotal = 1\\n"', "[300]", "bytes must be in range"),
-    (" = make 0\\n", "\\n", "a line of 'run' has no answer"),
-    ("make 0\\n", "make 0", "a line of 'run' has no answer"),
     ('rest = "0 0 and\\n"\n', "", "no case has the keys"),
-    ("pool: line 2", "poll: line 2", "an error begins with"),
-    ("statistics = {created = 1}\n", "", "no case has the keys"),
-    ("created = 1", "created = 0", "statistics are"),
-    ("created = 1", 'created = "1"', "statistics are"),
-    ("created = 1", "lost = 1", "statistics are"),
     ("{created = 1}", "1", "no attribute"),
     ("[[1, 1, ", "[[1, ", "not enough values"),
     ("[[1, 1, ", "[[2, 2, ", "changes are of lines of the journal"),
     ("[[1, 1, ", "[[0, 0, ", "changes are of lines of the journal"),
     ("[[1, 1, ", '[[1, 1, ""], [1, 1, ', "changes are of lines of the journal"),
-    ('verdict = "illegal 0 make 0"\n', "", "no case has the keys"),
-    ("illegal 0", "wrong 0", "a verdict begins with"),
     (GOOD, SEGMENTS.replace("{created = 1}", ""), "shorter"),
-    (GOOD, '[one]\nsettings = ""\nanswer = "no"\n', "an answer is"),
     (GOOD, "[one]\n", "no case has the keys none"),
     (GOOD, "# A heading.\n", "no case"),
 )
@@ -161,10 +150,10 @@ def check_unpacking(folder):
     """What the command ends with on a file without and with a fault, on one that is not there, and on a folder without files."""
     good, bad, none = folder / "good.toml", folder / "bad.toml", folder / "none.toml"
     good.write_text(GOOD)
-    bad.write_text(GOOD.replace("make 0\\n", ""))
+    bad.write_text(GOOD.replace("rest", "more"))
     (folder / "empty").mkdir()
     wanted = {
-        good: (0, ""), bad: (1, f"{bad}: one: a line of 'run' has no answer, or no end"),
+        good: (0, ""), bad: (1, f"{bad}: one: no case has the keys settings run more error statistics changed verdict"),
         none: (1, f"[Errno 2] No such file or directory: '{none}'"), folder / "empty": (1, f"{folder / 'empty'}: no file of cases"),
     }
     for number, (path, (status, told)) in enumerate(wanted.items()):

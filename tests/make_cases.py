@@ -176,7 +176,7 @@ def remade(case):
     if case.verdict is not None and case.verdict.startswith(b"legal ") and case.segments:
         case = cut_again(case)
     case = dataclasses.replace(case, segments=[(text, statistics_of(text)) for text, _ in case.segments])
-    if case.verdict is None:
+    if case.verdict is None and case.claimed is None:
         return case
     files = [text for text, _ in case.segments] or [case.claimed]
     return dataclasses.replace(case, verdict=verdict_of_segments(settings_in(case), files))
