@@ -16,10 +16,12 @@ Prints what fails, and in the end the line 'N passed, M failed'.
 import os
 import pathlib
 import re
+import runpy
 import shutil
 import subprocess
 import sys
 import tempfile
+import types
 
 from playing import NO_CARGO, TOP, has, play_checks, scratch, skip
 from postgres_server import Server
@@ -31,9 +33,8 @@ from entrants import (
     C, CLOCK, COMMONS, COMMONS_HOOKS, COUNTER, HIKARI, HIKARI_JAR, HOOKS, IN_PLACE, JAVA, JAVA_HOOKS, LOAD, OF_JAVA, PLAIN, R2D2, Row,
     is_right_contestant,
 )
-from soaking import ROUNDS, THREADS, Length, fault_of_load, faults_of
-from waiting import TASKS, THREADS as THREAD_WAITS, looked_at, waited, waits_of
 
+SOAK, WAITS = (types.SimpleNamespace(**runpy.run_path(str(TOP / "bench" / name))) for name in ("soak", "longest_waits"))
 PAIRS = 4_000
 ROWS = ["4 objects, 1 thread", "4 objects, 2 threads", "4 objects, 4 threads", "1 object, 2 threads", "1 object, 4 threads"]
 # The least ratios of columns, by the number of threads.
@@ -81,7 +82,7 @@ OVER_POSTGRES = {
     database.HIKARI: ("default-jdk-headless", "libpostgresql-jdbc-java", "libhikaricp-java", "libslf4j-java"),
     **dict.fromkeys(database.C_KINDS, ("libpq-dev",)),
 }
-LOADED = {"status": "0", "refused": "0", "borrowed": str(THREADS * ROUNDS), "returned": str(THREADS * ROUNDS), "created": "4", "destroyed": "4"}
+LOADED = {"status": "0", "refused": "0", **dict.fromkeys(("borrowed", "returned"), str(SOAK.THREADS * SOAK.ROUNDS)), "created": "4", "destroyed": "4"}
 WRONG_LOAD = {"status": "3", "refused": "1", "borrowed": "1", "returned": "1", "created": "5", "destroyed": "3"}
 
 
@@ -220,18 +221,18 @@ def counting():
 
 def waits():
     """A right report of waits passes, and a wrong one is an error. A longest wait of more than three times r2d2's is told."""
-    yield "a right report of waits", (30, 4), waits_of(WAITED, 200)
+    yield "a right report of waits", (30, 4), WAITS.waits_of(WAITED, 200)
     for report in WRONG_WAITS:
-        yield f"a report of 200 waits: {report!r}", None, waits_of(report, 200)
-    yield "a program that is right", (30, 4), waited(["printf", WAITED + "%.0s%.0s"], 10, 200)
+        yield f"a report of 200 waits: {report!r}", None, WAITS.waits_of(report, 200)
+    yield "a program that is right", (30, 4), WAITS.waited(["printf", WAITED + "%.0s%.0s"], 10, 200)
     for command in ["printf", WAITED.replace("200", "199") + "%.0s%.0s"], ["false"]:
         try:
-            yield f"{command}", "miscounted", waited(command, 10, 200)
+            yield f"{command}", "miscounted", WAITS.waited(command, 10, 200)
         except Miscounted:
             yield f"{command}", None, None
-    row = {R2D2: (30, 4), THREAD_WAITS: (90, 4), TASKS: (91, 4), C: (0, 0), COMMONS: (1_000, 4)}
-    yield "waits that are too long", ["", f"long: held for 10 µs: {TASKS}: 91 µs, r2d2 30", ""], list(looked_at(10, row))
-    yield "a wait without r2d2's beside it", [], list(looked_at(10, {JAVA: (1, 1)}))
+    row = {R2D2: (30, 4), WAITS.THREADS: (90, 4), WAITS.TASKS: (91, 4), C: (0, 0), COMMONS: (1_000, 4)}
+    yield "waits that are too long", ["", f"long: held for 10 µs: {WAITS.TASKS}: 91 µs, r2d2 30", ""], list(WAITS.looked_at(10, row))
+    yield "a wait without r2d2's beside it", [], list(WAITS.looked_at(10, {JAVA: (1, 1)}))
 
 
 def missing_waits():
@@ -240,22 +241,22 @@ def missing_waits():
     yield "waits that are left out", [], [column for column in (R2D2, COMMONS) if f"left out: {column}: no " not in done.stdout]
     shown = tables(done)
     yield "the table of waits", (1, True, 5), (len(shown), is_of(r"[\d,]+ \([\d,]+\)", *shown), len(shown[0])) if shown else done
-    yield "its columns", True, {THREAD_WAITS, TASKS} <= {*shown[0][0]} or shown
+    yield "its columns", True, {WAITS.THREADS, WAITS.TASKS} <= {*shown[0][0]} or shown
     yield "the end of the waits", (["0 rows, 0 long"], 0, ""), ended(done)
 
 
 def soak():
     """A right report passes four checks, and one with a wrong number fails."""
-    length, short = Length("pairs", 100), Length("seconds", 1)
-    yield "a right report", [None] * 4, list(faults_of(SOAKED, length, 1))
-    yield "a program that hangs", True, any(faults_of({"errors": "it hangs"}, length, 1))
+    length, short = SOAK.Length("pairs", 100), SOAK.Length("seconds", 1)
+    yield "a right report", [None] * 4, list(SOAK.faults_of(SOAKED, length, 1))
+    yield "a program that hangs", True, any(SOAK.faults_of({"errors": "it hangs"}, length, 1))
     for word, number in WRONG.items():
-        yield f"a report with {word} {number}", True, any(faults_of(SOAKED | {word: number}, length, 1))
-    yield "a short run that is flat", [None] * 4, list(faults_of(SOAKED | {"memory": "1356"}, short, 1))
-    yield "a short run that is not flat", True, any(faults_of(SOAKED | {"memory": "1357"}, short, 1))
-    yield "a right load", None, fault_of_load(LOADED)
+        yield f"a report with {word} {number}", True, any(SOAK.faults_of(SOAKED | {word: number}, length, 1))
+    yield "a short run that is flat", [None] * 4, list(SOAK.faults_of(SOAKED | {"memory": "1356"}, short, 1))
+    yield "a short run that is not flat", True, any(SOAK.faults_of(SOAKED | {"memory": "1357"}, short, 1))
+    yield "a right load", None, SOAK.fault_of_load(LOADED)
     for word, number in WRONG_LOAD.items():
-        yield f"a load with {word} {number}", True, bool(fault_of_load(LOADED | {word: number}))
+        yield f"a load with {word} {number}", True, bool(SOAK.fault_of_load(LOADED | {word: number}))
 
 
 def two_pools():

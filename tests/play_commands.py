@@ -1,7 +1,9 @@
 #!/usr/bin/env python3
-"""Runs the commands that README.md, bindings/c/README.md, docs/ and the program's help show, and judges the journals.
+"""Runs the commands that README.md, bindings/c/README.md, docs/ and the program's help show, judges the journals, and plays the examples of settings.
 
-play_commands.py POOL  The last line is 'N passed, M failed'.
+    play_commands.py POOL JOURNAL_PICTURE
+
+Both are programs. The last line is 'N passed, M failed'.
 
 A block is what a page indents by four spaces, and the man page's section of examples. Each must be of commands, which are run one after the
 other with the repository's examples at hand, or as one where they have a loop; the lines of a journal, which must be legal with the default
@@ -10,6 +12,9 @@ The command ./check is not run, since it runs this, nor is tools/build.py, also 
 crate or binding.
 Java's commands are run by play_java.py. What ./try does with the program without its proofs is done here by the program. Blocks between fences are not
 run: check_names.py holds them against the sources, and looks at names. Cargo's commands are skipped if no cargo runs.
+
+The examples that docs/guide/settings.md names are played, and must have the journal lines that it shows. The pictures in docs/pictures must be those of
+the journals: each under the name of its settings, the overview of the journal that tests/sample_journal.py writes, and that of leak.journal there.
 """
 
 import functools
@@ -18,10 +23,12 @@ import re
 import subprocess
 import sys
 
-from playing import NO_CARGO, TOP, has, play_checks, scratch, skip
+from playing import NO_CARGO, TOP, has, play_checks, run, scratch, skip
+from sample_journal import Sample
 
 from contest import runs_cargo
 
+PICTURES = TOP / "docs/pictures"
 # Commands that this does not run, since they run it.
 OWN = ("./check", "./check --install")
 COMMAND = re.compile(
@@ -127,7 +134,30 @@ def kit():
     return subprocess.run(["rt", "version"], capture_output=True, text=True).stdout.strip()
 
 
-def checks(pool):
+def is_drawn(picture, name, journal):
+    """Whether the picture of this name that stands in docs/pictures is that of the journal."""
+    return run(picture, "-", input=journal).stdout == (PICTURES / f"{name}.svg").read_bytes()
+
+
+def examples(pool, picture):
+    named = set()
+    rows = re.findall(r"^\| (`examples/.*)$", (TOP / "docs/guide/settings.md").read_text(), flags=re.MULTILINE)
+    for settings, script, *others in (re.findall(r"`([^`]+)`", row) for row in rows):
+        named |= {settings, script}
+        name, lines = pathlib.Path(settings).stem, [words.encode() for words in others if " = " in words]
+        done = run(pool, "run", TOP / settings, TOP / script)
+        yield f"{settings} on {script}", (b"", 0), (done.stderr, done.returncode)
+        yield f"the lines of {settings} on {script}", (True, []), (lines != [], [line for line in lines if line not in done.stdout.splitlines()])
+        if (PICTURES / f"{name}.svg").exists():
+            yield f"docs/pictures/{name}.svg is drawn of {settings}", True, is_drawn(picture, name, done.stdout)
+    yield "docs/pictures/overview.svg is drawn of tests/sample_journal.py", True, is_drawn(picture, "overview", Sample().play())
+    yield "docs/pictures/leak.svg is drawn of leak.journal", True, is_drawn(picture, "leak", (PICTURES / "leak.journal").read_bytes())
+    files = {f"examples/{path.name}" for path in (TOP / "examples").iterdir() if path.name != "README.md"}
+    yield "examples that docs/guide/settings.md doesn't name", set(), files - named
+
+
+def checks(pool, picture):
+    yield from examples(pool, picture)
     pages = [TOP / "README.md", *sorted((TOP / "docs").rglob("*.md")), TOP / "docs/pool.1"]
     if has("the commands of bindings/c/README.md", "make"):
         pages.append(TOP / "bindings/c/README.md")
@@ -138,4 +168,4 @@ def checks(pool):
 
 
 if __name__ == "__main__":
-    sys.exit(play_checks(checks(sys.argv[1])))
+    sys.exit(play_checks(checks(*sys.argv[1:])))
