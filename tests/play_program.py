@@ -45,7 +45,9 @@ FILES = {
     "key_of_two_lines.toml": b'"a\\nb\\u001B\\\\" = 1', "sp\u00e4t und leer.toml": b"", "empty": b"", "unreadable": b"",
     "plain.script": script_of(PLAIN_LIFE), "plain.journal": PLAIN_LIFE, "two_borrows.script": b"0 0 borrow 0\n1 5 borrow 5\n",
     "illegal.journal": PLAIN_LIFE.replace(b"check", b"parked"), "long_line": b"a" * 300, "not_a_line": b"0 1 borrow\n",
-    "bad_number": b"0 1 borrow 01\n", "truncated": b"0 1 borrow 1",
+    "bad_number": b"0 1 borrow 01\n", "truncated": b"0 1 borrow 1", "table_key.toml": b"[abandoned]\nnone = 1\n",
+    "all_kinds.toml": b"lifo = true\nmaxIdle = 3\nminIdle = 1\n[abandoned]\nremoveAbandonedOnBorrow = true\n",
+    "segment-0": PLAIN_LIFE, "settings-0.toml": b"lifo = true\n",
 }
 TWO_BORROWS = b"0 0 borrow 0 = make 0\n1 5 borrow 5 = wait\n"
 # What the default settings answer: 8 objects, the last one parked first, an eviction of those idle for half an hour.
@@ -99,6 +101,7 @@ SETTINGS_FAULTS = {
     "not_utf8.toml": "settings: not TOML",
     "not_toml.toml": "settings: not TOML",
     "unknown_key.toml": "settings: unknown key maxTotl",
+    "table_key.toml": "settings: unknown key abandoned.none",
     "wrong_type.toml": "settings: wrong type maxTotal",
     "key_of_two_lines.toml": "settings: unknown key a\\nb\\u001B\\\\",
     "first_fault.toml": "settings: wrong type lifo",
@@ -131,7 +134,7 @@ def good_runs():
     script, journal = FILES["plain.script"], FILES["plain.journal"]
     yield [], told(b"")
     yield [], told(journal), {"input": script}
-    for settings in ["defaults.toml", "small.toml", "longest.toml", "sp\u00e4t und leer.toml", "./defaults.toml"]:
+    for settings in ["defaults.toml", "small.toml", "longest.toml", "all_kinds.toml", "sp\u00e4t und leer.toml", "./defaults.toml"]:
         yield ["run", settings, "plain.script"], told(journal)
         yield ["run", settings, "empty"], told(b"")
         yield ["check", settings, "plain.journal"], told(b"legal 4\n")
@@ -141,6 +144,9 @@ def good_runs():
     yield ["run", "defaults.toml", "plain.script", "--"], told(journal)
     yield ["check", "defaults.toml", "plain.journal", "--"], told(b"legal 4\n")
     yield ["run", "/dev/stdin", "plain.script"], told(journal), {"input": b"maxTotal = 1\n"}
+    yield ["check", "/dev/stdin", "plain.journal"], told(b"legal 4\n"), {"input": b"maxTotal = 1\n"}
+    # The settings beside a segment hold for it.
+    yield ["check", "two_entries.toml", "segment-0"], told(b"legal 4\n")
     yield ["run", "small.toml", "/dev/stdin"], told(journal), {"input": script}
     # The settings that the file says are those that hold.
     for settings in ["small.toml", "longest.toml"]:
@@ -153,6 +159,7 @@ def runs_of_statistics():
     plain, most = told(statistics(1, 1, 1, 0, 0, 0, 0, 4, 4)), 2**64 - 1
     yield ["stats", "plain.journal"], plain
     yield ["stats", "--", "plain.journal"], plain
+    yield ["stats", "plain.journal", "--"], plain
     yield ["stats", "empty"], told(statistics(*[0] * 9))
     yield ["stats", "illegal.journal"], told(statistics(1, 0, 1, 0, 0, 0, 0, 0, 0))
     yield ["stats", "/dev/stdin"], told(statistics(0, 1, 0, 0, 0, 0, 0, 0, 0)), {"input": b"0 5 return 0 = check\n"}
@@ -172,17 +179,25 @@ def load_lines(workers, rounds, refused, *numbers):
     return f"workers {workers}\nrounds {rounds}\nrefused {refused}\n".encode() + statistics(*numbers)
 
 
-def runs_of_loads():
-    once, most = told(load_lines(1, 1, 0, 1, 1, 1, 1, 0, 0, 0, 1, 1)), MOST_ROUNDS
+def load_of(rounds):
+    """The answer to a load of one worker."""
+    return told(load_lines(1, rounds, 0, rounds, rounds, 1, 1, 0, 0, 0, 1, rounds))
+
+
+def runs_of_short_loads():
     for settings in ["defaults.toml", "seven_entries.toml", "small.toml", "four_objects.toml"]:
-        yield ["load", settings, "1", "1"], once
-    yield ["load", "--", "-hyphen.toml", "1", "1"], once
-    yield ["load", "/dev/stdin", "1", "1"], once, {"input": b"journalLimit = 7\n"}
-    for rounds in (1000, most):
-        yield ["load", "defaults.toml", "1", str(rounds)], told(load_lines(1, rounds, 0, rounds, rounds, 1, 1, 0, 0, 0, 1, rounds))
-    yield ["load", "no_objects.toml", "3", "5"], told(load_lines(3, 5, 15, *[0] * 9))
+        yield ["load", settings, "1", "1"], load_of(1)
+    yield ["load", "--", "-hyphen.toml", "1", "1"], load_of(1)
+    yield ["load", "/dev/stdin", "1", "1"], load_of(1), {"input": b"journalLimit = 7\n"}
+    yield ["load", "four_objects.toml", "1", "5"], load_of(5)
     yield ["load", "seven_entries.toml", "1", "2"], fault("journal full")
-    yield ["load", "defaults.toml", "1", str(most + 1)], fault("journal full")
+
+
+def runs_of_loads():
+    for rounds in (1000, MOST_ROUNDS):
+        yield ["load", "defaults.toml", "1", str(rounds)], load_of(rounds)
+    yield ["load", "no_objects.toml", "3", "5"], told(load_lines(3, 5, 15, *[0] * 9))
+    yield ["load", "defaults.toml", "1", str(MOST_ROUNDS + 1)], fault("journal full")
     yield ["load", "two_entries.toml", "1023", "1000000"], fault("journal full")
     for settings in ["defaults.toml", "missing.toml", "not_toml.toml"]:
         for word in NO_NUMBERS:
@@ -221,6 +236,11 @@ def settings_faults():
         yield ["check", settings, "missing.journal"], fault(what)
         yield ["load", settings, "1", "1"], fault(what)
         yield ["load", settings, "0", "18446744073709551615"], fault(what)
+
+
+def short_runs():
+    """The runs of which tests/refuse_uses.py plays each, once for each of its allocations."""
+    return itertools.chain(good_runs(), runs_of_statistics(), runs_of_short_loads(), wrong_arguments(), settings_faults(), line_faults())
 
 
 # A journal of five entries in two segments.
@@ -346,19 +366,23 @@ def many_workers(program, folder, settings, workers, rounds, most):
 
 def found_by_all(program, folder):
     """What differs in each run."""
-    plays = [good_runs(), runs_of_statistics(), runs_of_loads(), wrong_arguments(), settings_faults(), runs_of_segments(folder), line_faults()]
-    plays += [runs_of_paths(folder), runs_with_defaults(), failing_streams(folder), runs_of_unreadable()]
-    yield from side_by_side(lambda play: differences(program, folder, *play), itertools.chain(*plays))
+    plays = [short_runs(), runs_of_loads(), runs_of_segments(folder), runs_of_paths(folder), runs_with_defaults(), failing_streams(folder)]
+    yield from side_by_side(lambda play: differences(program, folder, *play), itertools.chain(*plays, runs_of_unreadable()))
     for load in MANY_WORKERS:
         yield many_workers(program, folder, *load)
     (folder / "words").mkdir()
     yield from compare(program, folder / "words")
 
 
+def lay_files(folder):
+    """Writes the files that the runs name."""
+    write_files(folder, FILES)
+    (folder / "folder").mkdir()
+
+
 def main(pool):
     with scratch() as folder:
-        write_files(folder, FILES)
-        (folder / "folder").mkdir()
+        lay_files(folder)
         (folder / "unreadable").chmod(0)
         folder.chmod(0o755)
         # Where nobody may run it.

@@ -3,12 +3,12 @@
 
     refuse_uses.py POOL
 
-POOL is the program. It is used with files and with standard input, with wrong arguments and with files that have faults, and on
-every EACH-th script of tests/cases. Each use is run once for each of its allocations, which is refused then (tests/refuse.c, built
-with the C compiler that CC names, or cc). It must then answer what it answers else; or end with status 3, after some whole lines
-from the front of that answer, and the line 'pool: out of memory', 'pool: no thread' where it starts threads, or 'pool: cannot open
-..' for one of its files, or for the settings beside one. If the words are wrong, only status 3 with 'pool: out of memory' and no output
-may replace the answer. No use can do without its first allocation.
+POOL is the program. It is used with files and with standard input, with wrong arguments and with files that have faults, as in
+tests/play_program.py, and on every EACH-th script of tests/cases. Each use is run once for each of its allocations, which is refused
+then (tests/refuse.c, built with the C compiler that CC names, or cc). It must then answer what it answers else; or end with status 3,
+after some whole lines from the front of that answer, and the line 'pool: out of memory', 'pool: no thread' where it starts threads, or
+'pool: cannot open ..' for one of its files, or for the settings beside one. If the words are wrong, only status 3 with 'pool: out of
+memory' and no output may replace the answer. No use can do without its first allocation.
 
 Prints each run that is wrong, and in the end the line 'N passed, M failed'.
 """
@@ -18,25 +18,18 @@ import itertools
 import pathlib
 import sys
 
-from argument_rules import found, refusal, statistics
-from case_files import CASES, script_of, unpacked, wanted_of
-from play_program import PLAIN_LIFE, fault, load_lines, told
-from playing import scratch, side_by_side, tell, write_files
+from argument_rules import found, task_of
+from case_files import CASES, unpacked, wanted_of
+from play_program import lay_files, short_runs
+from playing import scratch, side_by_side, tell
 from preloading import preloaded, refusals
 
 # Of the scripts, the statistics, and the journals in segments every such one is played, and this script.
 EACH, SCRIPT = 4, "worked/loans/two_objects_fifo"
 # Longer scripts take the same allocations, and more time.
 LONGEST = 20_000
-FILES = {
-    "a.toml": b"maxTotal = 4\n", "all.toml": b"lifo = true\nmaxIdle = 3\nminIdle = 1\n[abandoned]\nremoveAbandonedOnBorrow = true\n",
-    "key.toml": b"'a long key that no setting has' = 1\n", "table.toml": b"[abandoned]\nnone = 1\n", "type.toml": b"lifo = 1\n",
-    "range.toml": b"minIdle = -1\n", "not.toml": b"maxTotal =", "bytes.toml": b"\xff", "long.toml": b"#".ljust(1_048_577, b"c"),
-    "two.toml": b"journalLimit = 2\n", "seven.toml": b"journalLimit = 7\n", "of_two.toml": b"maxTotal = 2\n", "script": script_of(PLAIN_LIFE), "journal": PLAIN_LIFE,
-    "illegal": PLAIN_LIFE.replace(b"check", b"gone"), "bad": b"0 1 borrow 01\n", "empty": b"", "segment-0": PLAIN_LIFE, "settings-0.toml": b"lifo = true\n",
-}
-STATISTICS = statistics(1, 1, 1, 0, 0, 0, 0, 4, 4)
-LOAD = load_lines(1, 1, 0, 1, 1, 1, 1, 0, 0, 0, 1, 1)
+# What is told of the settings beside a segment.
+BESIDE = b"the settings beside "
 
 
 @dataclasses.dataclass
@@ -49,50 +42,9 @@ class Use:
     is_task: bool = True
 
 
-# Uses over the files above with their outputs, and perhaps what is on standard input.
-GOOD = [
-    ("", PLAIN_LIFE, FILES["script"]), ("run a.toml script", PLAIN_LIFE), ("run all.toml /dev/stdin", PLAIN_LIFE, FILES["script"]),
-    ("run /dev/stdin script", PLAIN_LIFE, FILES["all.toml"]), ("run -- a.toml script", PLAIN_LIFE), ("check a.toml journal", b"legal 4\n"),
-    ("check all.toml /dev/stdin", b"legal 4\n", PLAIN_LIFE), ("check /dev/stdin journal", b"legal 4\n", FILES["a.toml"]), ("run a.toml empty", b""),
-    ("stats journal", STATISTICS), ("stats /dev/stdin", STATISTICS, PLAIN_LIFE), ("load a.toml 1 1", LOAD),
-    ("load /dev/stdin 1 1", LOAD, FILES["all.toml"]), ("check a.toml empty -- journal", b"legal 4\n"), ("stats journal --", STATISTICS),
-    ("check two.toml segment-0", b"legal 4\n"), ("load of_two.toml 1 5", load_lines(1, 5, 0, 5, 5, 1, 1, 0, 0, 0, 1, 5)),
-]
-# Words that name no task.
-WRONG_WORDS = [
-    "nonsense", "--", "run", "run a.toml", "run a.toml script more", "run a.toml -- script more", "run -x a.toml script", "run --version",
-    "check a.toml", "check a.toml journal journal -x", "stats", "load a.toml 1", "load a.toml 1 x", "load a.toml 1 01",
-    "help", "--help", "-h", "run --help", "check a.toml journal -h", "--version", "-V",
-]
-# What is told of the settings beside a segment.
-BESIDE = b"the settings beside "
-# What is told of the other settings.
-SETTINGS_FAULTS = {
-    "key.toml": "unknown key a long key that no setting has", "table.toml": "unknown key abandoned.none", "type.toml": "wrong type lifo",
-    "range.toml": "out of range minIdle", "not.toml": "not TOML", "bytes.toml": "not TOML", "long.toml": "too long",
-}
-OTHER_FAULTS = {
-    "run a.toml bad": "line 1: bad number", "check a.toml script": "line 1: not a line", "stats script": "line 1: not a line",
-    "run two.toml script": "line 1: journal full", "load seven.toml 1 2": "journal full",
-}
-
-
 def uses():
-    """Uses over the files above."""
-    for words, output, *given in GOOD:
-        yield Use(words.split(), told(output), *given)
-    yield Use(["check", "a.toml", "illegal"], (b"illegal 2 check\n", b"", 1))
-    yield Use(["load", "a.toml", "0", "1"], refusal(["load"]))
-    for words in WRONG_WORDS:
-        yield Use(words.split(), refusal(words.split()), is_task=False)
-    for name, line in SETTINGS_FAULTS.items():
-        for words in ["run", name, "script"], ["check", name, "journal"], ["load", name, "1", "1"]:
-            yield Use(words, fault(f"settings: {line}"))
-    for command in ["run", "a.toml"], ["check", "a.toml"], ["stats"]:
-        yield Use([*command, "missing"], fault("cannot open missing"))
-        yield Use([*command, "."], fault("read failed"))
-    for words, line in OTHER_FAULTS.items():
-        yield Use(words.split(), fault(line))
+    for words, answer, *options in short_runs():
+        yield Use(words, answer, dict(*options).get("input", b""), not words or task_of(words) is not None)
 
 
 def uses_of_script(case, folder):
@@ -149,7 +101,7 @@ def main(pool):
     pool = pathlib.Path(pool).resolve()
     with scratch() as folder:
         library = preloaded("refuse", folder)
-        write_files(folder, FILES)
+        lay_files(folder)
         played = enumerate([*uses(), *uses_of_cases(folder / "cases")])
         found = side_by_side(lambda use: runs(pool, library, folder / f"refused{use[0]}", use[1]), played)
         return tell(itertools.chain.from_iterable(found))
