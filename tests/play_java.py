@@ -45,8 +45,8 @@ TIME = re.compile(r'^\d+ (\d+) .* = ', flags=re.MULTILINE)
 # A file of a journal that has no name of its own yet. No two pools have the same.
 UNFINISHED = re.compile(r"\.unfinished-[0-9a-f-]{36}")
 SEEDS, MILLIS = range(8), 700
-# Test programs that need nothing but the library.
-PROGRAMS = "Errors", "Waits", "LostPlaces"
+# Test programs that need nothing but the library, and a new folder or none.
+OVER_FOLDERS, PROGRAMS = ("Policies", "Measures", "Reconfigures"), ("Errors", "Waits", "LostPlaces")
 # How many borrows tests/java/Measures.java makes while it reads metrics, and the names of its pools.
 MEASURED, NAMES = 80_000, ["a", 'say "b\\"\nc']
 # The functions by which the native library allocates, which tests/refuse_java.c wraps.
@@ -151,17 +151,16 @@ def found(jar, classes, folder):
     yield "copies that are left", [], [*good.iterdir(), *other.iterdir()]
 
 
-def module(jar, classes, folder):
-    """What is wanted of a run whose jar is a module, and not on the class path; and what came of it."""
-    options = ["-p", f"{jar}:{java.commons_pool()}", "--add-modules", java.MODULE]
-    yield from program("a module", run(classes, classes, "Stress", 1, 50, folder / "module", options=options))
-
-
-def measures(jar, classes, folder):
-    """What is wanted of the metrics, and what came of it."""
-    place = folder / "measures"
+def played(name, jar, classes, pool, place, **options):
+    """What is wanted of a test program over a new folder, and of the journals there, each beside its settings; and what came of it."""
     place.mkdir()
-    yield from program("measures", run(jar, classes, "Measures", place))
+    yield from program(place.name, run(jar, classes, name, place, **options))
+    for settings in sorted(place.glob("*.toml")):
+        yield f"{place.name}: {settings.stem}", *legal(pool, settings, settings.with_suffix(""))
+
+
+def measures(place):
+    """What is wanted of the metrics, and what they are."""
     course = openmetrics.texts_of((place / "course").read_text())
     yield "measures: texts in their course", True, len(course) > 2 or len(course)
     yield "measures: their course", "", openmetrics.fault_of(openmetrics.check_course, course, MEASURED)
@@ -187,25 +186,11 @@ def refusals(jar, classes, native, pool, folder):
     yield from program("a full heap", run(jar, classes, "Refusals", "heap", options=["-Xmx24m", "-XX:+UseSerialGC", java.QUICK]))
 
 
-def folders(jar, classes, native, pool, folder):
-    """What is wanted of journals in folders, and what came of it."""
-    journals = folder / "folders"
-    journals.mkdir()
-    options = [f"-Dzuphinka.library={native}", "-XX:MaxDirectMemorySize=2m", java.QUICK]
-    yield from program("folders", run(jar, classes, "Folders", journals, options=options))
-    for settings in sorted(journals.rglob("settings.toml")):
-        yield f"folders: {settings.parent.name}", *legal(pool, settings, *sorted(settings.parent.glob("segment-*")))
-
-
 def calls(jar, classes, pool, folder):
     """What is wanted of the calls, of their journals, and of the order in which files of these are synced and renamed; and what came of it."""
-    place, noted = folder / "calls", folder / "noted"
-    place.mkdir()
+    place, noted, wanted = folder / "calls", folder / "noted", []
     variables = {"NOTED": str(noted), "LD_PRELOAD": str(preloaded("note_syncs", folder))}
-    yield from program("calls", run(jar, classes, "Calls", place, variables=variables))
-    for settings in sorted(place.glob("*.toml")):
-        yield f"calls: {settings.stem}", *legal(pool, settings, settings.with_suffix(""))
-    wanted = []
+    yield from played("Calls", jar, classes, pool, place, variables=variables)
     for above in [place], [place, place / "interrupted"]:
         journal = above[-1] / "stored"
         wanted += [f"sync {existing} 0" for existing in above]
@@ -219,25 +204,12 @@ def calls(jar, classes, pool, folder):
     yield "calls: names of unfinished files", 2, len({name for line in lines for name in UNFINISHED.findall(line)})
 
 
-def reconfigures(jar, classes, native, pool, judge, folder):
-    """What is wanted of pools whose settings change, and of their journals; and what came of it."""
-    place = folder / "reconfigures"
-    place.mkdir()
-    yield from program("reconfigures", run(jar, classes, "Reconfigures", place))
-    yield from program("refused changes", run(jar, classes, "RefusedChanges", options=[f"-Dzuphinka.library={native}", java.QUICK]))
+def reconfigures(pool, judge, place):
+    """What is wanted of the journals of pools whose settings change, and what they are."""
     for journal in sorted(place.iterdir()):
         yield f"reconfigures: {journal.name}: files of settings", True, len([*journal.glob("settings-*.toml")]) > 0
         yield f"reconfigures: {journal.name}", *legal_in(journal, pool, judge)
         yield f"reconfigures: {journal.name}: all segments", *legal(pool, journal / "settings.toml", *files_of(journal)[1])
-
-
-def policies(jar, classes, pool, folder):
-    """What is wanted of pools with eviction policies of the user's own, and of their journals; and what came of it."""
-    place = folder / "policies"
-    place.mkdir()
-    yield from program("policies", run(jar, classes, "Policies", place))
-    for settings in sorted(place.glob("*.toml")):
-        yield f"policies: {settings.stem}", *legal(pool, settings, settings.with_suffix(""))
 
 
 def portable(jar):
@@ -315,17 +287,23 @@ def checks(library, pool, picture, judge):
         sources = sorted((TOP / "tests/java").rglob("*.java"))
         java.compile_classes(sources, classes, jar, java.commons_pool())
         yield from calls(jar, classes, pool, folder)
-        yield from policies(jar, classes, pool, folder)
+        for name in OVER_FOLDERS:
+            yield from played(name, jar, classes, pool, folder / name.lower())
         for name in PROGRAMS:
             yield from program(name.lower(), run(jar, classes, name))
         yield from program("waits on a full heap", run(jar, classes, "Waits", "heap", options=HEAP))
-        yield from measures(jar, classes, folder)
+        yield from measures(folder / "measures")
+        yield from reconfigures(pool, judge, folder / "reconfigures")
         native = refusing(library, folder)
         yield from refusals(jar, classes, native, pool, folder)
-        yield from folders(jar, classes, native, pool, folder)
-        yield from reconfigures(jar, classes, native, pool, judge, folder)
+        options = [f"-Dzuphinka.library={native}", java.QUICK]
+        yield from program("refused changes", run(jar, classes, "RefusedChanges", options=options))
+        yield from played("Folders", jar, classes, pool, folder / "folders", options=[*options, "-XX:MaxDirectMemorySize=2m"])
+        for settings in sorted((folder / "folders").rglob("settings.toml")):
+            yield f"folders: {settings.parent.name}", *legal(pool, settings, *sorted(settings.parent.glob("segment-*")))
         yield from found(jar, classes, folder)
-        yield from module(jar, classes, folder)
+        options = ["-p", f"{jar}:{java.commons_pool()}", "--add-modules", java.MODULE]
+        yield from program("a module", run(classes, classes, "Stress", 1, 50, folder / "module", options=options))
         yield from documentation(folder / "documented")
         yield from examples(pool, picture, folder)
         for seed in SEEDS:
