@@ -11,7 +11,7 @@ import threading
 import time
 
 from contest import Miscounted
-from postgres_server import ROLE, end_with_parent, sessions_of
+from postgres_server import ROLE, TABLES, WRONG, end_with_parent, sessions_of
 
 CONNECTIONS = 4
 # How many connections a pool opens in a turn. DBCP2's BasicDataSource first opens and closes one, to try its settings.
@@ -20,18 +20,14 @@ REPORT = re.compile(r"(\d+) transfers in (\d+) us, longest wait (\d+) us\n")
 # A turn that takes so much longer than it should hangs, in seconds.
 LONGEST = 60
 PAUSE = 0.01
-TABLES = f"""SET ROLE {ROLE};
+NEW_TABLES = f"""SET ROLE {ROLE};
 DROP TABLE IF EXISTS account, transfer;
-CREATE TABLE account (id int PRIMARY KEY, euros int NOT NULL);
-CREATE TABLE transfer (worker int NOT NULL, source int NOT NULL, target int NOT NULL, euros int NOT NULL);
-INSERT INTO account SELECT id, 100 FROM generate_series(0, 99) AS id;
+{TABLES}INSERT INTO account SELECT id, 100 FROM generate_series(0, 99) AS id;
 RESET ROLE;
 CHECKPOINT;
 """
 # The transfers, and the accounts whose money is not that of the transfers.
-FOUND = """SELECT (SELECT count(*) FROM transfer), (SELECT count(*) FROM account WHERE euros <> 100
-  + (SELECT coalesce(sum(transfer.euros), 0) FROM transfer WHERE target = account.id)
-  - (SELECT coalesce(sum(transfer.euros), 0) FROM transfer WHERE source = account.id))"""
+FOUND = f"SELECT (SELECT count(*) FROM transfer), ({WRONG})"
 
 
 def run_when_idle():
@@ -96,7 +92,7 @@ class Bank:
 
     def renew(self):
         """Makes the tables anew, so that all turns begin with the same."""
-        self.server.ask(TABLES, ROLE)
+        self.server.ask(NEW_TABLES, ROLE)
         self.begin = self.server.log.stat().st_size
 
     def check(self, turn):

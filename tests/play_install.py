@@ -14,8 +14,8 @@ pkg-config or make isn't installed, what needs it is skipped, which is printed. 
 Prints each run that differs, and in the end the line 'N passed, M failed'.
 """
 
+import collections
 import ctypes
-import dataclasses
 import os
 import pathlib
 import re
@@ -34,6 +34,9 @@ INSTALLED = {
     "share/zuphinka/zuphinka_pool.c": SOURCES / "zuphinka_pool.c",
     **{f"share/zuphinka/zuphinka_pool_{name}.h": SOURCES / f"zuphinka_pool_{name}.h" for name in ("errors", "metrics", "segments", "sleep")},
 }
+# The version of the header, and the names of the shared library: its own, that by which programs load it, and that by which `-lzuphinka` finds it.
+VERSION = re.search(r'^#define ZUPHINKA_VERSION "(.*)"$', (INCLUDE / "zuphinka.h").read_text(), flags=re.MULTILINE)[1]
+SHARED, LOADED, FOUND = f"libzuphinka.so.{VERSION}", f"libzuphinka.so.{VERSION.partition('.')[0]}", "libzuphinka.so"
 # The libraries of the system that a program may need.
 SYSTEM = {"libc.so.6", "libpthread.so.0", "ld-linux-x86-64.so.2"}
 THREADS, ROUNDS = 4, 500
@@ -47,10 +50,6 @@ def run(*words, environment=None):
 
 def install(prefix, library):
     return run(sys.executable, TOP / "tools/install.py", "--prefix", prefix, "--library", library)
-
-
-def version():
-    return re.search(r'^#define ZUPHINKA_VERSION "(.*)"$', (INCLUDE / "zuphinka.h").read_text(), flags=re.MULTILINE)[1]
 
 
 def outcome(done):
@@ -88,34 +87,20 @@ def version_loaded(library):
 
 def shared_library(lib):
     """The shared library and its links."""
-    names = [f"libzuphinka.so.{version()}", f"libzuphinka.so.{version().partition('.')[0]}", "libzuphinka.so"]
-    whole, loaded, found = (lib / name for name in names)
-    major, minor, patch = map(int, version().split("."))
-    yield "the exported names", [(name, "T") for name in declared()], exported(whole)
-    yield "the name of the shared library", [loaded.name], dynamic(whole, "SONAME")
-    yield "what it needs", [], sorted({*dynamic(whole, "NEEDED")} - SYSTEM)
-    yield "the links", [None, whole.name, loaded.name], [os.readlink(file) if file.is_symlink() else None for file in (whole, loaded, found)]
-    yield "the version that Python finds in it", major * 1_000_000 + minor * 1_000 + patch, version_loaded(loaded)
+    files, (major, minor, patch) = [lib / name for name in (SHARED, LOADED, FOUND)], map(int, VERSION.split("."))
+    yield "the exported names", [(name, "T") for name in declared()], exported(lib / SHARED)
+    yield "the name of the shared library", [LOADED], dynamic(lib / SHARED, "SONAME")
+    yield "what it needs", [], sorted({*dynamic(lib / SHARED, "NEEDED")} - SYSTEM)
+    yield "the links", [None, SHARED, LOADED], [os.readlink(file) if file.is_symlink() else None for file in files]
+    yield "the version that Python finds in it", major * 1_000_000 + minor * 1_000 + patch, version_loaded(lib / LOADED)
 
 
 def told_by_pkg_config(prefix, *words):
     return run("pkg-config", *words, environment=os.environ | {"PKG_CONFIG_PATH": str(prefix / "lib/pkgconfig")})
 
 
-def versions_told(prefix):
-    """The versions that pkg-config tells."""
-    told = {name: told_by_pkg_config(prefix, "--modversion", name).stdout for name in ("zuphinka", "zuphinka-static")}
-    return "the versions that pkg-config tells", dict.fromkeys(told, version().encode() + b"\n"), told
-
-
-@dataclasses.dataclass
-class Kind:
-    """A way to link a program: its name, the flags, the shared libraries of ours that the program needs, and the environment in which it runs."""
-
-    name: str
-    flags: list[str]
-    needs: list[str]
-    environment: dict[str, str] | None = None
+# A way to link a program: its name, the flags, the shared libraries of ours that the program needs, and the environment in which it runs.
+Kind = collections.namedtuple("Kind", "name flags needs environment", defaults=[None])
 
 
 def kinds(prefix):
@@ -125,8 +110,7 @@ def kinds(prefix):
         for words in (["zuphinka-static"], ["zuphinka"], ["--static", "zuphinka"])
     )
     yield Kind("with the archive", archive, [])
-    found = os.environ | {"LD_LIBRARY_PATH": str(prefix / "lib")}
-    yield Kind("with the shared library", shared, [f"libzuphinka.so.{version().partition('.')[0]}"], found)
+    yield Kind("with the shared library", shared, [LOADED], os.environ | {"LD_LIBRARY_PATH": str(prefix / "lib")})
     yield Kind("as a static program", ["-static", *static], [])
 
 
@@ -141,23 +125,18 @@ def program(name, folder, kind, words, wanted):
         yield f"{name} {kind.name}", (wanted, b"", 0), outcome(run(built, *words, environment=kind.environment))
 
 
-def shared_program(folder, kind):
-    """Threads share a pool: each round has four entries at least."""
-    settings, segments = folder / "settings", folder / "segments"
-    settings.write_text("journalLimit = 1000\n")
-    segments.mkdir()
-    yield from program("shared_life", folder, kind, [settings, segments, str(THREADS), str(ROUNDS)], b"")
-    entries = sum(path.read_bytes().count(b" = ") for path in segments.iterdir())
-    yield f"the entries of shared_life {kind.name}", True, entries >= 4 * THREADS * ROUNDS or entries
-
-
 def programs(prefix):
-    """Each example is linked in each way."""
+    """Each example is linked in each way. Threads share a pool in the last: each round has four entries at least."""
     for kind in kinds(prefix):
         with scratch() as folder:
+            settings, segments = folder / "settings", folder / "segments"
+            settings.write_text("journalLimit = 1000\n")
+            segments.mkdir()
             yield from program("first_loan", folder, kind, [], b"")
             yield from program("plain_life", folder, kind, [TOP / "examples/settings.toml"], PLAIN_LIFE)
-            yield from shared_program(folder, kind)
+            yield from program("shared_life", folder, kind, [settings, segments, str(THREADS), str(ROUNDS)], b"")
+            entries = sum(path.read_bytes().count(b" = ") for path in segments.iterdir())
+            yield f"the entries of shared_life {kind.name}", True, entries >= 4 * THREADS * ROUNDS or entries
 
 
 def files(prefix):
@@ -215,7 +194,8 @@ def installed_files(prefix, library):
     yield "files that differ from their sources", [], [name for name, file in INSTALLED.items() if (prefix / name).read_bytes() != file.read_bytes()]
     yield from shared_library(prefix / "lib")
     if has("programs that are built by the installed files", "pkgconf"):
-        yield versions_told(prefix)
+        told = {name: told_by_pkg_config(prefix, "--modversion", name).stdout for name in ("zuphinka", "zuphinka-static")}
+        yield "the versions that pkg-config tells", dict.fromkeys(told, VERSION.encode() + b"\n"), told
         yield from programs(prefix)
 
 

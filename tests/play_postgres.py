@@ -34,7 +34,7 @@ import urllib.request
 import openmetrics
 from playing import NO_CARGO, TOP, has, play_checks, skip, stored_journal
 from play_library import EXAMPLES, FLAGS, INCLUDE, compiler
-from postgres_server import ROLE, SHARED, Server, end_with_parent, free_port, sessions_of
+from postgres_server import ROLE, SHARED, TABLES, WRONG, Server, end_with_parent, free_port, sessions_of
 
 import java
 from contest import REGISTRY, built_by_cargo, runs_cargo
@@ -58,10 +58,8 @@ LONGEST_ANSWER = 30
 # All of it ends after this time, in seconds.
 LONGEST = 900
 # The tables of the examples, and what watches them: the users of processes, those that were used, and a count of transfers that began.
-TABLES = f"""SET ROLE {ROLE};
-CREATE TABLE account (id int PRIMARY KEY, euros int NOT NULL);
-CREATE TABLE transfer (worker int NOT NULL, source int NOT NULL, target int NOT NULL, euros int NOT NULL);
-CREATE TABLE users (backend int PRIMARY KEY, worker int NOT NULL);
+WATCHED = f"""SET ROLE {ROLE};
+{TABLES}CREATE TABLE users (backend int PRIMARY KEY, worker int NOT NULL);
 CREATE TABLE used (backend int PRIMARY KEY);
 CREATE SEQUENCE begun;
 CREATE FUNCTION begin_use() RETURNS trigger LANGUAGE plpgsql AS $$ BEGIN
@@ -77,10 +75,6 @@ END $$;
 CREATE TRIGGER begin_use BEFORE INSERT ON transfer FOR EACH ROW EXECUTE FUNCTION begin_use();
 CREATE CONSTRAINT TRIGGER end_use AFTER INSERT ON transfer DEFERRABLE INITIALLY DEFERRED FOR EACH ROW EXECUTE FUNCTION end_use();
 """
-# The accounts whose money is not that of the table of transfers.
-WRONG = """SELECT count(*) FROM account WHERE euros <> 100
-  + (SELECT coalesce(sum(transfer.euros), 0) FROM transfer WHERE target = account.id)
-  - (SELECT coalesce(sum(transfer.euros), 0) FROM transfer WHERE source = account.id)"""
 # An example: its name, its money, and the command that runs it over a database for some seconds, with a folder for its journal and a port for its
 # metrics.
 Example = collections.namedtuple("Example", "name euros command")
@@ -333,7 +327,7 @@ def attempt(example, seconds, server, pool, folder, after_failures):
     name, base, place = example.name, f"{ROLE}_{example.name}_{seconds}", folder / f"run-{example.name}-{seconds}"
     place.mkdir()
     server.ask(f"CREATE DATABASE {base} OWNER {ROLE}")
-    server.ask(TABLES, base)
+    server.ask(WATCHED, base)
     begin, watch, port = server.log.stat().st_size, Watch(server), free_port()
     program = Program(example.command(server.port, base, seconds, place / "journal", port), place)
     watch.start()
@@ -360,7 +354,7 @@ def watching(server):
     """That a connection with two users is noticed, as are processes and connections that are too many or missing."""
     base = f"{ROLE}_watched"
     server.ask(f"CREATE DATABASE {base} OWNER {ROLE}")
-    server.ask(TABLES, base)
+    server.ask(WATCHED, base)
     begin, once = server.log.stat().st_size, f"SET ROLE {ROLE}; BEGIN; INSERT INTO transfer VALUES (1, 0, 1, 1);"
     yield "one user of a connection", ("", []), (server.answer(once + "COMMIT;", base), SHARED.findall(server.noted(begin)))
     twice = server.answer(once + "INSERT INTO transfer VALUES (2, 0, 1, 1); COMMIT;", base)

@@ -35,6 +35,13 @@ AUTHORIZED = re.compile(rf"^(\d+) LOG:  connection authorized: user={ROLE} ", re
 # A connection that was refused although it was authorized before; and one that the server ended.
 REFUSED = re.compile(r"^(\d+) FATAL:  remaining connection slots are reserved", re.MULTILINE)
 ENDED = re.compile(r"^(\d+) (?:FATAL|WARNING):  terminating connection ", re.MULTILINE)
+# The tables of accounts and transfers, and the number of accounts whose money is not that of the transfers.
+TABLES = """CREATE TABLE account (id int PRIMARY KEY, euros int NOT NULL);
+CREATE TABLE transfer (worker int NOT NULL, source int NOT NULL, target int NOT NULL, euros int NOT NULL);
+"""
+WRONG = """SELECT count(*) FROM account WHERE euros <> 100
+  + (SELECT coalesce(sum(transfer.euros), 0) FROM transfer WHERE target = account.id)
+  - (SELECT coalesce(sum(transfer.euros), 0) FROM transfer WHERE source = account.id)"""
 # What the server says if two users of one connection begin transactions at a time.
 SHARED = re.compile(r"duplicate key value|there is already a transaction in progress|there is no transaction in progress")
 
