@@ -1,5 +1,5 @@
 #!/usr/bin/env python3
-"""Makes long random sequences of calls in one thread of Commons Pool 2 and of the pool for Java, by tests/commons_random, and compares them call by call.
+"""Makes long random sequences of calls in one thread of Commons Pool 2 and the pool for Java, by tests/commons_random, and compares them call by call.
 
     commons_random.py [--seed N] [--runs N] LIBRARY
 
@@ -123,16 +123,12 @@ def checks(library, seed, runs):
             yield f"{mistake.name}: some run notices it", True, is_noticed
 
 
-def arguments():
+def main():
     words = argparse.ArgumentParser(description=__doc__, formatter_class=argparse.RawDescriptionHelpFormatter)
     words.add_argument("--seed", type=int, default=0, metavar="N", help="the seed of the first run, 0 if none is given")
     words.add_argument("--runs", type=int, default=RUNS, metavar="N", help=f"how many runs, {RUNS} if none is given")
     words.add_argument("library", metavar="LIBRARY", type=pathlib.Path, help="libzuphinka.a")
-    return words.parse_args()
-
-
-def main():
-    given = arguments()
+    given = words.parse_args()
     return play_with_java("random calls of the pool for Java and of Commons Pool 2", checks(given.library, given.seed, given.runs))
 
 

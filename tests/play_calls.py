@@ -455,17 +455,13 @@ def refused(path):
         yield differing(repr(script), (done.stdout, f"test_calls: {told}\n".encode(), 2), done)
 
 
-def arguments():
+def main():
     words = argparse.ArgumentParser(prog="play_calls.py", description=__doc__, formatter_class=argparse.RawDescriptionHelpFormatter)
     words.add_argument("program", metavar="PROGRAM")
     words.add_argument("--seeds", metavar="N", type=int, default=56, help="how many seeds are played")
     words.add_argument("--seed", metavar="SEED", type=int, help="play this seed alone")
     words.add_argument("--commands", metavar="N", type=int, default=600, help="how many commands each seed has, at least")
-    return words.parse_args()
-
-
-def main():
-    asked = arguments()
+    asked = words.parse_args()
     seeds = range(1, asked.seeds + 1) if asked.seed is None else [asked.seed]
     with concurrent.futures.ProcessPoolExecutor(os.cpu_count()) as workers:
         found, counts, seen = zip(*workers.map(play_seed, seeds, [asked] * len(seeds)))

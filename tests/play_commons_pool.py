@@ -264,7 +264,7 @@ def checks(library, pool, judge, source):
         yield from checks_of_journals(pool, judge, folder)
 
 
-def arguments():
+def main():
     words = argparse.ArgumentParser(description=__doc__, formatter_class=argparse.RawDescriptionHelpFormatter)
     words.add_argument("--source", type=pathlib.Path, default=os.environ.get("COMMONS_POOL2_SOURCE"), help="the source of Commons Pool 2")
     words.add_argument("--fetch", action="store_true", help="store the archive of the source, and test nothing")
@@ -272,11 +272,6 @@ def arguments():
     given = words.parse_args()
     if not given.fetch and len(given.products) != 3:
         words.error("LIBRARY, POOL and JUDGE are missing")
-    return given
-
-
-def main():
-    given = arguments()
     if given.fetch:
         return fetch()
     if given.source and not (given.source / "src/test/java").is_dir():

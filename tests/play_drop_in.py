@@ -52,41 +52,30 @@ def legal_journals(name, pool, judge, folder):
         yield f"{name}: {journal.name}", *legal_in(journal, pool, judge)
 
 
-def later_settings(classes, jars, pool, judge, folder):
-    """What is wanted of settings that change, which is what the library does; and what the class does."""
-    wanted = run([classes, java.commons_pool()], "LaterSettings")
-    yield "settings that change in the library", (0, True), (wanted.returncode, len(wanted.stdout.splitlines()) > 100)
-    done = run([jars[0], classes, java.commons_pool()], "LaterSettings", options=[f"-Dzuphinka.journals={folder}"])
-    yield "settings that change", (wanted.stdout, 0), (done.stdout, done.returncode)
-    yield from legal_journals("settings that change", pool, judge, folder)
-
-
-def data_sources(classes, jars, pool, judge, folder):
-    """What is wanted of DBCP2 over the class, which is what it does over the library's; and what it does."""
-    others = [java.DEBIAN_JAR.parent / f"{name}.jar" for name in JARS]
-    wanted = run([classes, *others, java.commons_pool()], "DataSources")
-    yield "DBCP2 over the library", 0, wanted.returncode
-    yield "DBCP2 over the library: its lines", True, len(wanted.stdout.splitlines()) > 20 or wanted.stdout
-    done = run([jars[0], classes, *others, java.commons_pool()], "DataSources", options=[f"-Dzuphinka.journals={folder}"])
-    yield "DBCP2", (wanted.stdout, 0), (done.stdout, done.returncode)
-    yield from legal_journals("DBCP2", pool, judge, folder)
+def same_as_library(name, least_lines, path, drop_in, pool, judge, folder):
+    """What is wanted of a program over the class, which is what it prints over the library's; and what it does."""
+    wanted = run(path, name)
+    yield f"{name} over the library", (0, True), (wanted.returncode, len(wanted.stdout.splitlines()) > least_lines or wanted.stdout)
+    done = run([drop_in, *path], name, options=[f"-Dzuphinka.journals={folder}"])
+    yield name, (wanted.stdout, 0), (done.stdout, done.returncode)
+    yield from legal_journals(name, pool, judge, folder)
 
 
 def checks(library, pool, judge):
     with scratch() as folder:
         jar = java.build(library, heap_of_kit(), folder / "out")
-        jars, classes = [java.drop_in(jar.parent), jar], folder / "classes"
+        jars, classes, others = [java.drop_in(jar.parent), jar], folder / "classes", [java.DEBIAN_JAR.parent / f"{name}.jar" for name in JARS]
         sources = [*sorted((TOP / "tests/drop_in").glob("*.java")), TOP / "tests/java/Expectations.java"]
         has_jars = has("DBCP2 over the pool for Java", *JARS.values())
         sources = [source for source in sources if has_jars or source.name != "DataSources.java"]
-        java.compile_classes(sources, classes, *jars, java.commons_pool(), *(java.DEBIAN_JAR.parent / f"{name}.jar" for name in JARS))
+        java.compile_classes(sources, classes, *jars, java.commons_pool(), *others)
         yield from surface(classes, jars)
-        path = [jars[0], classes, java.commons_pool()]
-        yield from program("drop-in", run(path, "DropIn", jars[0].name, options=[f"-Dzuphinka.journals={folder / 'journals'}"]))
+        path = [classes, java.commons_pool()]
+        yield from program("drop-in", run([jars[0], *path], "DropIn", jars[0].name, options=[f"-Dzuphinka.journals={folder / 'journals'}"]))
         yield from legal_journals("drop-in", pool, judge, folder / "journals")
-        yield from later_settings(classes, jars, pool, judge, folder / "of-later-settings")
+        yield from same_as_library("LaterSettings", 100, path, jars[0], pool, judge, folder / "of-later-settings")
         if has_jars:
-            yield from data_sources(classes, jars, pool, judge, folder / "of-data-sources")
+            yield from same_as_library("DataSources", 20, [*path, *others], jars[0], pool, judge, folder / "of-data-sources")
 
 
 if __name__ == "__main__":

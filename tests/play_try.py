@@ -47,21 +47,19 @@ def play(words, folder, path, given="", status=0):
     return subprocess.run([TRY, *words], cwd=folder, env=environment, input=given, capture_output=True, text=True, timeout=LONGEST)
 
 
-def path_without_rt(folder):
-    """The folders of a path in which there is Python, and no kit."""
-    (folder / "python").mkdir()
-    (folder / "python/python3").symlink_to(sys.executable)
-    return f"{folder}/python:/usr/bin:/bin"
-
-
 def with_other_rt(folder):
-    """The words, the streams and the status, as they pass through: what is wanted of each, and what it is."""
+    """The words, the streams and the status, as they pass through: what is wanted of each, and what it is. And without any `rt`."""
     tools, here = folder / "tools", folder / "here"
     tools.mkdir()
     here.mkdir()
     (tools / "rt").write_text(RT)
     (tools / "rt").chmod(0o755)
-    path = f"{tools}:{path_without_rt(folder)}"
+    (folder / "python").mkdir()
+    (folder / "python/python3").symlink_to(sys.executable)
+    path_without_rt = f"{folder}/python:/usr/bin:/bin"
+    done = play(["--help"], folder, path_without_rt)
+    yield "without the kit", (3, "", True), (done.returncode, done.stdout, "rt is not on the PATH" in done.stderr)
+    path = f"{tools}:{path_without_rt}"
     for given, wanted in WORDS:
         done = play(given.split(), here, path)
         lines = [str(TOP / "crates/pool"), "try", "--", *wanted.replace("{}", f"{here}/").split()]
@@ -79,11 +77,6 @@ def with_other_rt(folder):
     yield "no answer", (2, ["run=none proved=no"]), (done.returncode, done.stderr.splitlines()[1:])
 
 
-def without_rt(folder):
-    done = play(["--help"], folder, path_without_rt(folder))
-    yield "without the kit", (3, "", True), (done.returncode, done.stdout, "rt is not on the PATH" in done.stderr)
-
-
 def with_kit(folder):
     """The program itself, from another folder, with paths as they are there."""
     if not shutil.which("rt"):
@@ -98,7 +91,7 @@ def with_kit(folder):
 
 
 def checks():
-    for part in with_other_rt, without_rt, with_kit:
+    for part in with_other_rt, with_kit:
         with scratch() as folder:
             yield from part(folder)
 

@@ -68,15 +68,6 @@ def heap_of_kit():
     return pathlib.Path(page).parent / "c/liblibc_c.a"
 
 
-def arguments():
-    words = argparse.ArgumentParser(description="Installs the C library under a prefix.")
-    words.add_argument("--prefix", required=True, type=pathlib.Path, help="the folder that gets include, lib and share")
-    words.add_argument("--destdir", default="", help="a folder that is put before the prefix")
-    words.add_argument("--library", type=pathlib.Path, default=TOP / "crates/zuphinka/out/libzuphinka.a", help="libzuphinka.a")
-    words.add_argument("--heap", type=pathlib.Path, help="the kit's liblibc_c.a")
-    return words.parse_args()
-
-
 def version():
     return (TOP / "VERSION").read_text().strip()
 
@@ -149,7 +140,12 @@ def install(prefix, named, library, heap):
 
 
 def main():
-    given = arguments()
+    words = argparse.ArgumentParser(description="Installs the C library under a prefix.")
+    words.add_argument("--prefix", required=True, type=pathlib.Path, help="the folder that gets include, lib and share")
+    words.add_argument("--destdir", default="", help="a folder that is put before the prefix")
+    words.add_argument("--library", type=pathlib.Path, default=TOP / "crates/zuphinka/out/libzuphinka.a", help="libzuphinka.a")
+    words.add_argument("--heap", type=pathlib.Path, help="the kit's liblibc_c.a")
+    given = words.parse_args()
     heap = given.heap or heap_of_kit()
     for file in given.library, heap:
         if not file.is_file():

@@ -11,7 +11,8 @@ Pool 2, else it is Debian's; CC the C compiler, else it is cc. Made are, in bind
     zuphinka.jar                  the classes and the native library; its manifest names the module, and commons-pool2.jar as its class path
     zuphinka-commons-pool2.jar    a GenericObjectPool in place of the library's; its manifest names both other jars as its class path
 
-The same sources, library and compilers give the same bytes. The status is 1 if something cannot be compiled, and 3 if a tool or Commons Pool 2 is missing: then its package is named.
+The same sources, library and compilers give the same bytes. The status is 1 if something cannot be compiled, and 3 if a tool or Commons Pool 2 is
+missing: then its package is named.
 """
 
 import argparse
@@ -124,15 +125,11 @@ def drop_in(folder=OUT):
     return folder / "zuphinka-commons-pool2.jar"
 
 
-def arguments():
+def main():
     words = argparse.ArgumentParser(description="Builds the pool for Java.")
     words.add_argument("--library", type=pathlib.Path, help="libzuphinka.a")
     words.add_argument("--heap", type=pathlib.Path, help="the kit's liblibc_c.a")
-    return words.parse_args()
-
-
-def main():
-    given = arguments()
+    given = words.parse_args()
     try:
         jdk(), commons_pool()
     except Missing as missing:

@@ -8,9 +8,9 @@ programs pool, judge and journal_picture, the man page, examples, the licence, a
 the kit's line and a checksum of each other file, as `sha256sum --check` reads it.
 
 --gate FILE names the log of ./check, whose commit must be the one that is checked out, without changes, and in whose last line nothing failed; how
-much was skipped stands in PROVED. A check of named parts tells no commit, and won't do. Without a log PROVED says that nothing was passed. --output FOLDER gets the archive, else the
-folder out/. What isn't built of its sources as they are is proved and built first. With --programs FOLDER what a clone there has built is taken as
-it is, and PROVED says that.
+much was skipped stands in PROVED. A check of named parts tells no commit, and won't do. Without a log PROVED says that nothing was passed. --output
+FOLDER gets the archive, else the folder out/. What isn't built of its sources as they are is proved and built first. With --programs FOLDER what a
+clone there has built is taken as it is, and PROVED says that.
 
 The jar needs a JDK and Commons Pool 2, as tools/java.py finds them. With --without-java the archive and its README have nothing for Java, and PROVED
 says that.
@@ -49,15 +49,6 @@ PROVED = """# zuphinka {version} for Linux on x86-64
 # kit: {kit}
 # The checksums of all other files: sha256sum --check --strict --quiet PROVED
 """
-
-
-def arguments():
-    words = argparse.ArgumentParser(description="Makes an archive of what users take, which needs no proof toolchain.")
-    words.add_argument("--gate", type=pathlib.Path, help="the log of ./check")
-    words.add_argument("--output", type=pathlib.Path, default=TOP / "out", help="the folder that gets the archive")
-    words.add_argument("--programs", type=pathlib.Path, help="a clone in which all is built")
-    words.add_argument("--without-java", action="store_true", help="leave out the pool for Java")
-    return words.parse_args()
 
 
 def verdict(gate, commit):
@@ -145,7 +136,12 @@ def pack(stage, archive):
 
 
 def main():
-    given = arguments()
+    words = argparse.ArgumentParser(description="Makes an archive of what users take, which needs no proof toolchain.")
+    words.add_argument("--gate", type=pathlib.Path, help="the log of ./check")
+    words.add_argument("--output", type=pathlib.Path, default=TOP / "out", help="the folder that gets the archive")
+    words.add_argument("--programs", type=pathlib.Path, help="a clone in which all is built")
+    words.add_argument("--without-java", action="store_true", help="leave out the pool for Java")
+    given = words.parse_args()
     if not given.without_java:
         try:
             java.jdk(), java.commons_pool()
