@@ -26,7 +26,6 @@ import types
 from playing import NO_CARGO, TOP, has, play_checks, scratch, skip
 from postgres_server import Server
 
-import database_programs as database
 import database_turns
 from contest import JAR, LIBRARY, LONGEST, REGISTRY, Miscounted, runs_cargo
 from entrants import (
@@ -34,7 +33,7 @@ from entrants import (
     is_right_contestant,
 )
 
-SOAK, WAITS = (types.SimpleNamespace(**runpy.run_path(str(TOP / "bench" / name))) for name in ("soak", "longest_waits"))
+SOAK, WAITS, database = (types.SimpleNamespace(**runpy.run_path(str(TOP / "bench" / name))) for name in ("soak", "longest_waits", "database"))
 PAIRS = 4_000
 ROWS = ["4 objects, 1 thread", "4 objects, 2 threads", "4 objects, 4 threads", "1 object, 2 threads", "1 object, 4 threads"]
 # The least ratios of columns, by the number of threads.
