@@ -76,13 +76,10 @@ def lane_differences(picture, text, journal):
     yield from misplaced(picture, times[0], times[-1])
 
 
-def edge_of(number, count):
-    return CHART_LEFT + number * CHART_WIDTH // count
-
-
 def path_of(heights, top, height, highest):
     """The steps of an area's upper edge."""
-    steps = (f"V{top + height - level * height // highest}H{edge_of(number + 1, len(heights))}" for number, level in enumerate(heights))
+    edges = [CHART_LEFT + number * CHART_WIDTH // len(heights) for number in range(1, len(heights) + 1)]
+    steps = (f"V{top + height - level * height // highest}H{edge}" for edge, level in zip(edges, heights))
     return f"M{CHART_LEFT} {top + height}" + "".join(steps)
 
 
@@ -334,10 +331,6 @@ def checks(program, paths, folder):
         yield f"failed allocations, {journal}", refusal_differences(program, folder / journal, folder)
 
 
-def main(program, paths):
-    with scratch() as folder:
-        return tell([f"{name}: {line}" for line in [*found][:5]] for name, found in checks(program, paths, folder))
-
-
 if __name__ == "__main__":
-    sys.exit(main(sys.argv[1], sys.argv[2:]))
+    with scratch() as room:
+        sys.exit(tell([f"{name}: {line}" for line in [*found][:5]] for name, found in checks(sys.argv[1], sys.argv[2:], room)))

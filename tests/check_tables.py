@@ -39,19 +39,14 @@ SPEED = TOP / "docs/guide/speed.md"
 PAGES_OF_LANGUAGES = ("docs/guide/c.md", "bindings/rust/README.md", "bindings/java/README.md")
 
 
-def value_of(term):
-    """What a value is in a definition, as TOML says it."""
-    kind, _, digits = term.partition(" ")
-    return {"true": True, "false": False}[kind] if not digits else int(digits) if kind == "pos" else -int(digits) - 1
-
-
 def defined():
     """The defaults of the definitions, by the keys of TOML. That there is no table of abandoned objects is no key."""
     text = (TOP / "crates/pool_settings/specs/Defaults.antt").read_text()
     found = {}
-    for name, term in re.findall(r"^ +(\w+) = (\w+(?: \d+)?);$", text, flags=re.MULTILINE):
+    for name, kind, digits in re.findall(r"^ +(\w+) = ([a-z_]*) ?(\d*);$", text, flags=re.MULTILINE):
         key = re.sub(r"_(\w)", lambda letter: letter[1].upper(), name)
-        found["abandoned." * key.startswith("removeAbandoned") + key] = int(term) if term.isdigit() else value_of(term)
+        value = -int(digits) - 1 if kind == "negsuc" else int(digits) if digits else kind == "true"
+        found["abandoned." * key.startswith("removeAbandoned") + key] = value
     del found["abandoned"]
     return found
 

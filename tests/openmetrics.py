@@ -58,11 +58,6 @@ def need(holds, fault):
         raise Wrong(fault)
 
 
-def unescaped(value):
-    """The text that the value of a label stands for."""
-    return ESCAPE.sub(lambda found: {"n": "\n"}.get(found[1], found[1]), value)
-
-
 def lines_of(name, kind):
     """The samples of a pool in a family, by their names with the bounds of buckets behind them, each with the pattern of its line. The first has the
     name of the pool."""
@@ -82,7 +77,8 @@ def read_family(text, at, name, pools):
     need(found, f"no descriptors of {name}: {text[at : at + SHOWN]!r}")
     while more := of_pool.match(text, found.end()):
         pool, *numbers = more.groups()
-        known, found = pools.setdefault(unescaped(pool), {}), more
+        unescaped = ESCAPE.sub(lambda found: {"n": "\n"}.get(found[1], found[1]), pool)
+        known, found = pools.setdefault(unescaped, {}), more
         need(known.keys().isdisjoint(lines), f"{name} comes twice of {pool!r}")
         known |= {sample: float(number) if "." in number else int(number) for sample, number in zip(lines, numbers)}
         if kind == "histogram":

@@ -30,11 +30,8 @@ STATISTICS = {
     "borrowtestfailed": 1,
     "reclaimed": 1,
 }
-
-
-def owned(account):
-    """What an account holds in the end: its clerk's deposits, without what goes on to the next account, with what comes from the one before."""
-    return ORDERS * (10 - (account + 1) + ((account - 1) % CLERKS + 1))
+# What each account holds in the end: its clerk's deposits, without what goes on to the next account, with what comes from the one before.
+OWNED = {account: ORDERS * (10 - (account + 1) + ((account - 1) % CLERKS + 1)) for account in range(CLERKS)}
 
 
 def read_books(folder):
@@ -63,7 +60,7 @@ def checks_of_run(bank, pool, picture, folder):
     told = subprocess.run([pool, "stats", journal], capture_output=True, text=True).stdout
     statistics = {name: int(number) for name, number in map(str.split, told.splitlines())}
     yield "the statistics", STATISTICS, {name: statistics.get(name) for name in STATISTICS}
-    yield "the books", (BOOKS, {account: owned(account) for account in range(CLERKS)}, []), read_books(folder)
+    yield "the books", (BOOKS, OWNED, []), read_books(folder)
     yield "the picture", [], list(differences(picture, journal))
 
 

@@ -108,21 +108,19 @@ def read_page():
 
 
 def jars():
-    """The jars that the tests need besides Commons Pool 2."""
+    """The jars that the tests need besides Commons Pool 2, which has the version of the tests."""
+    if commons_pool_version() != VERSION:
+        raise java.Missing(f"{java.commons_pool()} is not version {VERSION} of Commons Pool 2, whose tests these are")
     for name, package in JARS.items():
         if not (java.DEBIAN_JAR.parent / f"{name}.jar").is_file():
             raise java.Missing(f"no {name}.jar: Debian's package {package} has it")
     return [java.DEBIAN_JAR.parent / f"{name}.jar" for name in JARS]
 
 
-def require_version():
-    """Sees that the Commons Pool 2 that is installed has the version of the tests."""
-    if commons_pool_version() != VERSION:
-        raise java.Missing(f"{java.commons_pool()} is not version {VERSION} of Commons Pool 2, whose tests these are")
-
-
-def download():
-    """Downloads the archive, and returns it."""
+def archive():
+    """Returns the archive: the stored one, or else one that is downloaded."""
+    if FETCHED.is_file() and hashlib.sha256(FETCHED.read_bytes()).hexdigest() == CHECKSUM:
+        return FETCHED.read_bytes()
     try:
         with urllib.request.urlopen(ARCHIVE, timeout=30) as reply:
             packed = reply.read()
@@ -134,17 +132,12 @@ def download():
     return packed
 
 
-def is_fetched():
-    """Whether the archive is stored, with its checksum."""
-    return FETCHED.is_file() and hashlib.sha256(FETCHED.read_bytes()).hexdigest() == CHECKSUM
-
-
 def fetch():
-    """Stores the archive, unless it is there or another source is named. Returns the status to end with."""
-    if os.environ.get("COMMONS_POOL2_SOURCE") or is_fetched():
+    """Stores the archive, unless another source is named. Returns the status to end with."""
+    if os.environ.get("COMMONS_POOL2_SOURCE"):
         return 0
     try:
-        packed = download()
+        packed = archive()
     except java.Missing as missing:
         print(missing, file=sys.stderr)
         return 1
@@ -155,7 +148,7 @@ def fetch():
 
 def unpacked(to):
     """Unpacks the tests of the archive, and returns the folder of the source."""
-    with tarfile.open(fileobj=io.BytesIO(FETCHED.read_bytes() if is_fetched() else download())) as members:
+    with tarfile.open(fileobj=io.BytesIO(archive())) as members:
         members.extractall(to, [member for member in members if "/src/test/" in member.name])
     return next(to.glob("*/src/test")).parent.parent
 
@@ -276,7 +269,7 @@ def main():
         return fetch()
     if given.source and not (given.source / "src/test/java").is_dir():
         sys.exit(f"{given.source}/src/test/java: no such folder\n0 passed, 1 failed")
-    return play_with_java("the tests of Commons Pool 2", checks(*given.products, given.source), jars, require_version)
+    return play_with_java("the tests of Commons Pool 2", checks(*given.products, given.source), jars)
 
 
 if __name__ == "__main__":

@@ -248,15 +248,10 @@ def documentation(folder):
     yield "items without documentation", [], [item for source in public for item in undocumented(source)]
 
 
-def commands_of(name):
-    """The commands of the pages that run an example, up to their last word, the folder for the journal."""
-    pages = (page.read_text() for page in (TOP / "README.md", java.JAVA / "README.md"))
-    return sorted({command for page in pages for command in re.findall(rf"^    (java .*/{name}\.java )", page, flags=re.MULTILINE)})
-
-
 def example(name, report, pool, folder):
-    """What is wanted of an example, and what came of it. All pages must run it by one command."""
-    commands = commands_of(name)
+    """What is wanted of an example, and what came of it. All pages must run it by one command, whose last word is the folder for the journal."""
+    pages = (page.read_text() for page in (TOP / "README.md", java.JAVA / "README.md"))
+    commands = sorted({command for page in pages for command in re.findall(rf"^    (java .*/{name}\.java )", page, flags=re.MULTILINE)})
     yield f"{name}: its commands", 1, len(commands)
     words = ["bash", "-ec", f"{commands[0]}{shlex.quote(str(folder))}"]
     done = subprocess.run(words, cwd=TOP, capture_output=True, text=True, timeout=LONGEST)

@@ -251,13 +251,12 @@ def of_uses(judge, settings):
     with scratch() as room:
         wrong = [f"{words}: {ended}" for words, told, status in uses(room, settings) if (ended := run(judge, *words)) != (b"", told, status)]
     wrong += [f"{word}: {run(judge, word)}" for word in ("--version", "-V") if run(judge, word) != (version().replace(b"pool", b"judge"), b"", 0)]
-    return wrong + [f"{word}: {run(judge, word)}" for word in ("--help", "-h") if not is_help(*run(judge, word))]
-
-
-def is_help(output, told, status):
-    """Whether an output is the uses of the program, each in some words."""
-    named = [line.partition("  ")[0] for line in output.decode().splitlines() if line.startswith("judge ")]
-    return (named, told, status) == (["judge SETTINGS SEGMENT", "judge --help", "judge --version"], b"", 0)
+    for word in "--help", "-h":
+        # The uses of the program, each in some words.
+        output, *ended = run(judge, word)
+        named = [line.partition("  ")[0] for line in output.decode().splitlines() if line.startswith("judge ")]
+        wrong += [f"{word}: {output}"] * ((named, ended) != (["judge SETTINGS SEGMENT", "judge --help", "judge --version"], [b"", 0]))
+    return wrong
 
 
 def of_refused(command, wanted, library, mark):

@@ -94,17 +94,15 @@ def lines_of(table, before=b"", behind=b""):
     return [(before + words + behind, what) for what, many in table.items() for words in many]
 
 
-def of_scripts():
-    """Scripts with a line at fault."""
+def cases():
+    """Each case: the words, the text, and what must be answered."""
+    # Scripts with a line at fault.
     for line, what in [*lines_of(NO_INPUTS, b"0 1 ", b"\n"), *lines_of(NO_REQUESTS)]:
         yield ["run", "defaults"], line, told_of(1, what)
     for script, answered, what in SCRIPTS:
         journal = b"".join(PLAIN_LIFE.splitlines(keepends=True)[:answered])
         yield ["run", "defaults"], script, (journal, *told_of(answered + 1, what)[1:])
-
-
-def of_journals():
-    """Journals with a line at fault."""
+    # Journals with a line at fault.
     for line, what in [*lines_of(NO_ANSWERS, b"0 1 close = ", b"\n"), *lines_of(NO_ENTRIES), *lines_of(NO_FIRST_LINES)]:
         yield ["stats"], line, told_of(1, what)
         yield ["check", "defaults"], line, told_of(1, what)
@@ -113,26 +111,20 @@ def of_journals():
         yield ["check", "defaults", "first"], text, told_of(2, what)
     for text, line, what in BEHIND_OTHERS:
         yield ["stats"], text, told_of(line, what)
-
-
-def of_cut_journals():
-    """A journal that is cut off at each byte is legal where its last line is whole."""
+    # A journal that is cut off at each byte is legal where its last line is whole.
     for count in range(len(PLAIN_LIFE) + 1):
         text = PLAIN_LIFE[:count]
         lines = text.count(b"\n")
         is_whole = count in (0, 24, 49, 71, 97)
         yield ["check", "defaults"], text, (b"legal %d\n" % lines, b"", 0) if is_whole else told_of(lines + 1, "truncated")
-
-
-def of_changed_journals():
-    """A journal with an x in the place of each byte. No line of it has an x."""
+    # A journal with an x in the place of each byte. No line of it has an x.
     for at in range(len(PLAIN_LIFE)):
         what = "truncated" if at == 96 else "not a line"
         yield ["check", "defaults"], PLAIN_LIFE[:at] + b"x" + PLAIN_LIFE[at + 1 :], told_of(1 + PLAIN_LIFE[:at].count(b"\n"), what)
 
 
 def main(pool):
-    program, cases = pathlib.Path(pool).resolve(), itertools.chain(of_scripts(), of_journals(), of_cut_journals(), of_changed_journals())
+    program = pathlib.Path(pool).resolve()
     with scratch() as folder:
         write_files(folder, {"defaults": b"", "first": FIRST_SEGMENT})
 
@@ -142,7 +134,7 @@ def main(pool):
             write_files(folder, {number: text})
             return differing(f"{' '.join(words)} of {text!r}", wanted, run(program, *words, str(number), cwd=folder))
 
-        return tell(side_by_side(differences, itertools.count(), cases))
+        return tell(side_by_side(differences, itertools.count(), cases()))
 
 
 if __name__ == "__main__":
