@@ -45,7 +45,7 @@ def defined():
     found = {}
     for name, kind, digits in re.findall(r"^ +(\w+) = ([a-z_]*) ?(\d*);$", text, flags=re.MULTILINE):
         key = re.sub(r"_(\w)", lambda letter: letter[1].upper(), name)
-        value = -int(digits) - 1 if kind == "negsuc" else int(digits) if digits else kind == "true"
+        value = -int(digits) - 1 if kind == "negsuc" else int(digits) if digits else {"true": True, "false": False}[kind]
         found["abandoned." * key.startswith("removeAbandoned") + key] = value
     del found["abandoned"]
     return found

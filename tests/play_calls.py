@@ -23,6 +23,7 @@ Prints what differs, and in the end the line 'N passed, M failed'. With --seed i
 
 import argparse
 import concurrent.futures
+import contextlib
 import os
 import random
 import subprocess
@@ -113,15 +114,13 @@ class Program:
     def ask(self, command):
         """The lines of the answer to a command, up to the one with the counts."""
         lines = []
-        try:
+        with contextlib.suppress(BrokenPipeError):
             self.process.stdin.write(command + "\n")
             self.process.stdin.flush()
             for line in self.process.stdout:
                 lines.append(line.rstrip("\n"))
                 if line.startswith("counts "):
                     return lines
-        except BrokenPipeError:
-            pass
         raise Difference(f"the program has ended after {lines}, with {self.process.stderr.read()!r}")
 
     def end(self):

@@ -171,11 +171,9 @@ def listing(trial):
     yield "the list", (names, 0, "", []), ([line.split()[0] for line in done.lines], done.status, done.errors, done.calls)
     yield "what quick tests", "quick    brief small late library", done.lines[-1]
     yield "what a part tests", "small    needs nothing", done.lines[5]
-    done = trial.check("small", "smalls")
-    told = "check: there is no part smalls: did you mean small? ./check --list names them all\n"
-    yield "a name near to another", ([], 2, told, []), done
-    told = "check: there is no part xxxxxxxx: ./check --list names them all\n"
-    yield "another name", ([], 2, told, []), trial.check("xxxxxxxx")
+    for name, hint in ("smalls", "did you mean small? "), ("xxxxxxxx", ""):
+        told = f"check: there is no part {name}: {hint}./check --list names them all\n"
+        yield f"the name {name}", ([], 2, told, []), trial.check("small", name)
 
 
 def alone(trial):
@@ -219,12 +217,10 @@ def quickly(trial):
 
 def static(trial):
     """A static library is built over the libraries that are there, or else with them."""
-    shutil.rmtree(trial.top / "crates/low/out")
-    done = trial.check("late")
-    yield "with its library", (["library low", "archive archive", "built archive", "begin late"], 0), (done.calls, done.status)
-    shutil.rmtree(trial.top / "crates/archive/out")
-    done = trial.check("late")
-    yield "over its library", (["archive archive", "built archive", "begin late"], 0), (done.calls, done.status)
+    for crate, first in ("low", ["library low"]), ("archive", []):
+        shutil.rmtree(trial.top / "crates" / crate / "out")
+        done = trial.check("late")
+        yield f"without {crate}", ([*first, "archive archive", "built archive", "begin late"], 0), (done.calls, done.status)
 
 
 def whole(trial):
@@ -310,11 +306,9 @@ def installing(trial):
     yield "what is shown of it", (INSTALL, "2 passed, 0 failed, 0 skipped", 0), (done.lines[0], done.lines[-1], done.status)
     done = trial.check("--install", "needy", APT="broken")
     yield "it is installed", (["begin needy"], 0), (done.calls, done.status)
-    (trial.top.parent / "bin/apt-get").rename(trial.top.parent / "bin/other")
     (trial.signs / "tool-dev").unlink()
-    done = trial.check("--install", "needy", PATH=f"{trial.top.parent}/bin:{trial.top.parent}/python:{without_apt(trial)}")
+    done = trial.check("--install", "needy", PATH=f"{trial.top.parent}/python:{without_apt(trial)}")
     yield "no apt-get", ([INSTALL], 3, f"{told}there is no apt-get here; ./check alone skips what needs it\n"), (done.lines, done.status, done.errors)
-    (trial.top.parent / "bin/other").rename(trial.top.parent / "bin/apt-get")
 
 
 def without_apt(trial):
@@ -390,11 +384,9 @@ def committed(trial):
 
 def without_kit(trial):
     """Without the command `rt` only what is built serves."""
-    (trial.top.parent / "bin/rt").rename(trial.top.parent / "bin/other")
-    done = trial.check("proofs", "tool")
+    done = trial.check("proofs", "tool", PATH=f"{trial.top.parent}/python:/usr/bin:/bin")
     told = "proofs: not run, since the Rattle kit's command rt is not on the PATH"
     yield "without the kit", ("3 passed, 1 failed, 0 skipped", 1, True), (done.lines[-1], done.status, told in done.lines)
-    (trial.top.parent / "bin/other").rename(trial.top.parent / "bin/rt")
 
 
 def is_alive(process):

@@ -10,6 +10,7 @@ crates/pool_tasks/specs/Hints.antt says, and to a pipe the first of them.
 Prints each case that differs, and in the end the line 'N passed, M failed'.
 """
 
+import contextlib
 import os
 import pathlib
 import pty
@@ -94,11 +95,9 @@ def feed(path, pieces, last):
 def read_all(end):
     """All that is written to a terminal, until nobody has it open."""
     told = b""
-    try:
+    with contextlib.suppress(OSError):
         while piece := os.read(end, 4096):
             told += piece
-    except OSError:
-        pass
     return told
 
 
