@@ -9,7 +9,7 @@ import time
 from collections.abc import Callable
 
 from contest import COMPILER, LONGEST, TOP, Contest, Miscounted, build, built, built_by_cargo, built_c, version_of, version_of_jdk
-from preloading import preloaded
+from playing import preloaded
 
 CONTESTANTS, RUST, CRATE = TOP / "bench/peers_java", TOP / "bench/peers_rust", TOP / "bindings/rust"
 HIKARI_JAR = pathlib.Path("/usr/share/java/HikariCP.jar")

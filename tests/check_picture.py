@@ -20,9 +20,8 @@ import xml.etree.ElementTree as xml
 import picture_model
 from case_files import unpacked
 from play_damaged import SETTINGS, Chance, journal_by_chance
-from playing import TOP, differing, run, scratch, tell, write_files
+from playing import TOP, differing, preloaded, refusals, run, scratch, tell, write_files
 from pool_model import cut_at, settings_of
-from preloading import preloaded, refusals
 
 SVG = "{http://www.w3.org/2000/svg}"
 LEFT, WIDTH, MOST = 110, 1180, 10_000

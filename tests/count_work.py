@@ -23,9 +23,8 @@ import subprocess
 import sys
 
 from many_objects import NO_LIMITS, segments_of
-from playing import scratch, tell
+from playing import preloaded, scratch, tell
 from pool_model import settings_of
-from preloading import preloaded
 
 # The buffer for what comes, that for what waits to be written, and the longest line. At most so many bytes less are read at once.
 BUFFER = 65_536

@@ -34,8 +34,7 @@ import sys
 import changed_settings
 import openmetrics
 from play_library import EXAMPLES, FLAGS, INCLUDE, TOP, VALGRIND, compiler, header_runs, run
-from playing import differing, has, scratch, side_by_side, skip, tell
-from preloading import preloaded
+from playing import differing, has, preloaded, scratch, side_by_side, skip, tell
 
 from install import POOL, heap_of_kit
 

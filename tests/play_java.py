@@ -31,8 +31,7 @@ import zipfile
 import openmetrics
 from changed_settings import files_of, judged
 from check_picture import differences
-from playing import TOP, has, play_checks, scratch, skip, skip_all
-from preloading import preloaded
+from playing import TOP, has, play_checks, preloaded, scratch, skip, skip_all
 
 import java
 from install import heap_of_kit, version

@@ -37,9 +37,8 @@ from case_files import unpacked, wanted_of
 from play_commands import TOP, blocks, commands
 from play_damaged import Chance
 from play_segments import THREE, damaged_segments, play_trials, segmented
-from playing import differing, scratch, write_files
+from playing import differing, preloaded, refusals, scratch, write_files
 from pool_model import LineFault, Pool, read_entry, settings_of, verdict_of_segments, words_of
-from preloading import preloaded, refusals
 
 def run(*command):
     done = playing.run(*command)

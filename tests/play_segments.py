@@ -23,9 +23,8 @@ import sys
 
 from case_files import unpacked, wanted_of
 from play_damaged import Chance, damaged, journal_by_chance
-from playing import differing, run, scratch, side_by_side, tell, write_files
+from playing import differing, launcher, run, scratch, side_by_side, tell, write_files
 from pool_model import cut_at, settings_of, verdict_of_segments
-from preloading import launcher
 
 # The most segments that are handed to one run.
 MOST_SEGMENTS = 400

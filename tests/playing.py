@@ -1,8 +1,9 @@
-"""What the scripts share that run programs, compare what they do with what is wanted, and say what they skip. Once this is imported, they can import
-the modules of other folders too."""
+"""What the scripts share that run programs, also with libraries that are loaded before them, compare what they do with what is wanted, and say what
+they skip. Once this is imported, they can import the modules of other folders too."""
 
 import concurrent.futures
 import contextlib
+import itertools
 import os
 import pathlib
 import subprocess
@@ -18,6 +19,7 @@ from parts import PACKAGES
 NAMED = {package.name: package for package in PACKAGES}
 NO_CARGO = "no cargo runs here: rustup.rs has one, and so has Debian's package cargo-web"
 KINDS = ("output", "standard error", "status")
+TESTS, COMPILER = TOP / "tests", os.environ.get("CC", "cc")
 # How much of a difference is printed, and how much of what is the same before it, in characters.
 MOST_PRINTED, BEFORE = 2_000, 100
 
@@ -33,6 +35,33 @@ def scratch():
     """A temporary folder."""
     with tempfile.TemporaryDirectory() as name:
         yield pathlib.Path(name).resolve()
+
+
+def preloaded(name, folder, sources=TESTS):
+    """Builds the library tests/NAME.c in the folder, or one of other sources, with the C compiler that CC names, or cc, and gives its path."""
+    library = pathlib.Path(folder) / f"{name}.so"
+    subprocess.run([COMPILER, "-O1", "-shared", "-fPIC", "-o", library, sources / f"{name}.c", "-ldl"], check=True)
+    return library
+
+
+def launcher(folder):
+    """The program that runs another one and notes the most memory that it took. It is built in the folder if it isn't there."""
+    built = pathlib.Path(folder).resolve() / "launcher"
+    if not built.exists():
+        subprocess.run([COMPILER, "-O1", "-o", built, TESTS / "peak.c"], check=True)
+    return built
+
+
+def refusals(library, mark, *words, **options):
+    """Runs a program with all allocations granted, and then once for each of them, which is refused then, by the library of refuse.c. Yields its number,
+    0 at first, and what came of the run. The file `mark` is there after a run in which one was refused."""
+    for number in itertools.count():
+        mark.unlink(missing_ok=True)
+        settings = {"LD_PRELOAD": str(library), "REFUSED": str(mark), "REFUSE": str(number)}
+        done = run(*words, env=os.environ | settings, **options)
+        if number and not mark.exists():
+            return
+        yield number, done
 
 
 def skip(what, reason):

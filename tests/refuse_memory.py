@@ -25,8 +25,7 @@ import pathlib
 import subprocess
 import sys
 
-from playing import run, scratch, tell
-from preloading import preloaded, refusals
+from playing import preloaded, refusals, run, scratch, tell
 
 ONE_OF = 6
 THREADED = {"SharedPool::open", "borrow", "add", "fill", "maintain", "journal_copy", "cut"}

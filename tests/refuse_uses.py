@@ -21,8 +21,7 @@ import sys
 from argument_rules import found, task_of
 from case_files import CASES, unpacked, wanted_of
 from play_program import lay_files, short_runs
-from playing import scratch, side_by_side, tell
-from preloading import preloaded, refusals
+from playing import preloaded, refusals, scratch, side_by_side, tell
 
 # Of the scripts, the statistics, and the journals in segments every such one is played, and this script.
 EACH, SCRIPT = 4, "worked/loans/two_objects_fifo"
