@@ -202,10 +202,10 @@ def print_missed(rows, word):
 def play(parser, asked, contest, compare):
     """Builds the programs of a contest in a temporary folder, and ends this process with what `compare` returns, or with the run that failed."""
     with tempfile.TemporaryDirectory(prefix="zuphinka-", ignore_cleanup_errors=True) as folder:
-        built = contest(folder, asked)
-        if not built.programs:
-            parser.error(f"nothing to run: {'; '.join(built.left_out)}")
+        entered = contest(folder, asked)
+        if not entered.programs:
+            parser.error(f"nothing to run: {'; '.join(entered.left_out)}")
         try:
-            sys.exit(compare(built, asked))
+            sys.exit(compare(entered, asked))
         except Miscounted as error:
             sys.exit(f"a run failed: {error}")

@@ -33,12 +33,11 @@ import sys
 
 import changed_settings
 import openmetrics
-from play_library import EXAMPLES, FLAGS, INCLUDE, TOP, VALGRIND, compiler, header_runs, run
+from play_library import INCLUDE, TOP, VALGRIND, compiled, compiler, header_runs, run
 from playing import differing, has, preloaded, scratch, side_by_side, skip, tell
 
-from install import POOL, heap_of_kit
+from install import POOL
 
-POOL_FLAGS = [*FLAGS, "-pthread", "-I", INCLUDE]
 SEEDS, THREADS, CALLS = 15, 4, 2_000
 SHARED_ROUNDS, SOAKED = 5_000, 3_000_000
 MEASURED = 400_000
@@ -53,11 +52,9 @@ ANSWERS = set(
 )
 
 
-def built(folder, name, library, flags, main=TOP / "tests/play_c_pool.c"):
-    """Compiles a program over the pool with flags, links it with the library, and returns its path."""
-    program = folder / name
-    subprocess.run([compiler(), *POOL_FLAGS, *flags, "-o", program, main, POOL, library, heap_of_kit()], check=True)
-    return program
+def built(library, folder, *flags):
+    """Compiles the program over the pool with flags, links it with the library, and returns its path."""
+    return compiled("play_c_pool", library, folder, ["-pthread", POOL, *flags], TOP / "tests")
 
 
 def has_tsan(folder):
@@ -186,7 +183,7 @@ def all_calls(plain, library, folder, watches):
     few = range(1, FEW_SEEDS + 1)
     calls = [(plain.test, name) for name in names] + [(plain.random, seed, THREADS, CALLS) for seed in range(1, SEEDS + 1)]
     for name, flags, before, threads in watches:
-        runs = Runs(name, [*before, built(folder, name, library, flags)], plain.pool, plain.judge)
+        runs = Runs(name, [*before, built(library, folder / name, *flags)], plain.pool, plain.judge)
         calls += [(runs.test, name) for name in names] + [(runs.random, seed, threads, FEW_CALLS) for seed in few]
     return calls + [(refused, plain, refuse, folder, seed) for seed in few]
 
@@ -194,10 +191,10 @@ def all_calls(plain, library, folder, watches):
 def found(library, programs, folder):
     """What differs in each run."""
     yield from header_differing(folder)
-    plain = Runs("plain", [built(folder, "plain", library, [])], *(str(pathlib.Path(program).resolve()) for program in programs))
+    plain = Runs("plain", [built(library, folder)], *(str(pathlib.Path(program).resolve()) for program in programs))
     calls = all_calls(plain, library, folder, list(tools(folder)))
     yield from side_by_side(lambda call: call[0](*call[1:]), calls)
-    shared = built(folder, "shared_life", library, [], EXAMPLES / "shared_life.c")
+    shared = compiled("shared_life", library, folder, ["-pthread", POOL])
     yield from [plain.soak(), plain.metrics(), plain.shared(shared), *plain.sinks()]
     missing = ANSWERS - plain.answers
     yield [f"no journal has {sorted(missing)}"] * bool(missing)

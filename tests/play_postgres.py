@@ -33,7 +33,7 @@ import urllib.request
 
 import openmetrics
 from playing import NO_CARGO, TOP, has, play_checks, skip, stored_journal
-from play_library import EXAMPLES, FLAGS, INCLUDE, compiler
+from play_library import compiled
 from postgres_server import ROLE, SHARED, TABLES, WRONG, Server, end_with_parent, free_port, sessions_of
 
 import java
@@ -104,9 +104,7 @@ def in_c(library, folder):
     """Compiles the example in C, if libpq is there."""
     if not has("the example over PostgreSQL in C", "libpq-dev"):
         return None
-    program, sources = folder / "postgres", [EXAMPLES / "postgres.c", POOL]
-    words = [compiler(), *FLAGS, "-pthread", "-I", INCLUDE, "-I", "/usr/include/postgresql", "-o", program, *sources, library, heap_of_kit(), "-lpq"]
-    java.run(*words)
+    program = compiled("postgres", library, folder, ["-pthread", "-I", "/usr/include/postgresql", POOL, "-lpq"])
     return Example("c", 10_000, over_connection_string(program))
 
 
