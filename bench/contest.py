@@ -189,6 +189,18 @@ def print_head(*cells):
     print("|---" * len(cells) + "|")
 
 
+def measured(title, rows, name_of, race, form):
+    """Races all rows, and prints each as soon as it is measured, a number in this form for each column. Returns what was measured, by column."""
+    found = []
+    for row in rows:
+        found.append(race(row))
+        if len(found) == 1:
+            print_head(title, *found[0])
+        print_row(name_of(row), *map(form, found[-1].values()))
+    print()
+    return found
+
+
 def print_missed(rows, word):
     """Prints the targets that are missed, and the last line. Each row has a line for each target that it misses, and an empty one for each that it
     reaches. Returns whether one is missed."""

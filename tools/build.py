@@ -123,8 +123,17 @@ class Work:
                 self.finish(crate)
 
 
-def build(program):
-    """Builds a program or a static library, where it isn't built of its sources as they are."""
+def main():
+    if len(sys.argv) != 2:
+        sys.exit(__doc__)
+    program = sys.argv[1]
+    if program == "java":
+        os.execv(sys.executable, [sys.executable, TOOLS / "java.py"])
+    if program not in libraries():
+        sys.exit(f"{program}: no crate of this repository")
+    signal.signal(signal.SIGTERM, lambda number, _: sys.exit(128 + number))
+    if sources.is_current(program):
+        return
     if not shutil.which("rt"):
         sys.exit(f"{program}: the Rattle kit's command rt is not on the PATH, and proves and builds it")
     held(program)
@@ -136,19 +145,6 @@ def build(program):
         work.run()
     finally:
         work.stop()
-
-
-def main():
-    if len(sys.argv) != 2:
-        sys.exit(__doc__)
-    program = sys.argv[1]
-    if program == "java":
-        os.execv(sys.executable, [sys.executable, TOOLS / "java.py"])
-    if program not in libraries():
-        sys.exit(f"{program}: no crate of this repository")
-    signal.signal(signal.SIGTERM, lambda number, _: sys.exit(128 + number))
-    if not sources.is_current(program):
-        build(program)
 
 
 if __name__ == "__main__":

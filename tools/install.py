@@ -72,10 +72,11 @@ def version():
     return (TOP / "VERSION").read_text().strip()
 
 
-def run(*words, text=None):
-    done = subprocess.run(words, input=text, text=True)
+def run(*words, **options):
+    """Runs a command, whose output is shown only if it fails."""
+    done = subprocess.run(list(map(str, words)), stdout=subprocess.PIPE, stderr=subprocess.STDOUT, text=True, **options)
     if done.returncode:
-        sys.exit(f"{words[0]}: status {done.returncode}")
+        sys.exit(f"{words[0]}: status {done.returncode}\n{done.stdout}")
 
 
 def merge(archive, library, heap):
@@ -87,7 +88,7 @@ def merge(archive, library, heap):
     flags = ["-std=c11", "-O2", "-fPIC", "-pthread", "-Wall", "-Wextra", "-I", INCLUDE]
     run(os.environ.get("CC", "cc"), *flags, "-c", "-o", pool, POOL)
     parts = f"ADDLIB {folder}/library.a\nADDLIB {folder}/heap.a\nADDMOD {pool}\n"
-    run(os.environ.get("AR", "ar"), "-M", text=f"CREATE {archive}\n{parts}SAVE\nEND\n")
+    run(os.environ.get("AR", "ar"), "-M", input=f"CREATE {archive}\n{parts}SAVE\nEND\n")
 
 
 def functions(header):

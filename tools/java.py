@@ -25,7 +25,7 @@ import sys
 import tempfile
 import zipfile
 
-from install import INCLUDE, heap_of_kit, version
+from install import INCLUDE, heap_of_kit, run, version
 
 TOP = pathlib.Path(__file__).resolve().parent.parent
 JAVA = TOP / "bindings/java"
@@ -66,13 +66,6 @@ def commons_pool():
     if not jar.is_file():
         raise Missing(f"{jar}: no such file; Debian's package libcommons-pool2-java has it; COMMONS_POOL2 names another")
     return jar.resolve()
-
-
-def run(*words, **options):
-    """Runs a command, whose output is shown only if it fails."""
-    done = subprocess.run(list(map(str, words)), stdout=subprocess.PIPE, stderr=subprocess.STDOUT, text=True, **options)
-    if done.returncode:
-        sys.exit(f"{words[0]}: status {done.returncode}\n{done.stdout}")
 
 
 def compile_native(library, heap, to, *more):
