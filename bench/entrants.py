@@ -28,10 +28,6 @@ PAIRS_WORDS = {COUNTER: [], CLOCK: ["instant"], HOOKS: ["instant", "hooks"]}
 JOURNAL_LIMIT = 1 << 32
 
 
-def counted(number, word):
-    return f"{number} {word}" if number == 1 else f"{number} {word}s"
-
-
 @dataclasses.dataclass
 class Row:
     """Threads that share a pool, and the pairs of a borrow and a return that each of them makes."""
@@ -46,16 +42,18 @@ class Row:
 
     @property
     def name(self):
-        return f"{counted(self.objects, 'object')}, {counted(self.threads, 'thread')}"
+        return ", ".join(f"{number} {word}{'s' * (number > 1)}" for number, word in ((self.objects, "object"), (self.threads, "thread")))
 
 
 @dataclasses.dataclass
 class Entrant:
-    """A program that does the work of a row. `is_right` checks its report; `times` returns seconds, by the columns of the table."""
+    """A program that does the work of a row, and its columns of the table. `is_right` checks its report; `times` returns the seconds of each column, from
+    the report and the seconds of the whole process, which count by themselves."""
 
+    columns: list[str]
     command: Callable[[Row], list]
     is_right: Callable[[Row, dict], bool]
-    times: Callable[[dict, float], dict]
+    times: Callable[[dict, float], list] = lambda report, seconds: [seconds]
     environment: dict = dataclasses.field(default_factory=dict)
 
     def run(self, row):
@@ -67,17 +65,7 @@ class Entrant:
         report = dict(line.split(" ", 1) for line in done.stdout.splitlines() if " " in line)
         if done.returncode or not self.is_right(row, report):
             raise Miscounted(f"{row.name}: {' '.join(command)}: status {done.returncode}\n{done.stdout}{done.stderr}")
-        return self.times(report, seconds)
-
-
-def whole(column):
-    """The time of the whole process."""
-    return lambda report, seconds: {column: seconds}
-
-
-def measured(columns):
-    """The times that contestants in Java measured after their warm-up. `columns` has the column of each."""
-    return lambda report, seconds: {column: int(report[f"{kind}-nanoseconds"]) / 1e9 for kind, column in columns.items()}
+        return dict(zip(self.columns, self.times(report, seconds)))
 
 
 def numbers(report, *words):
@@ -165,13 +153,18 @@ class Entrants(Contest):
             self.enter_contestants(program, "bare", {"Hikari": HIKARI})
 
     def enter_contestants(self, program, factory, columns):
+        """Enters contestants in Java, whose times are those that they measured after their warm-up. `columns` has the column of each."""
+
         def is_right(row, report):
             return all(is_right_contestant(kind, row, report) for kind in columns)
 
         def command(row):
             return [*program, row.objects, row.threads, row.each, factory, *columns]
 
-        self.programs.append(Entrant(command, is_right, measured(columns)))
+        def times(report, _):
+            return [int(report[f"{kind}-nanoseconds"]) / 1e9 for kind in columns]
+
+        self.programs.append(Entrant([*columns.values()], command, is_right, times))
 
     def enter_r2d2(self):
         if self.wants(R2D2) and self.has([R2D2], *self.of_crates({"r2d2": "librust-r2d2-dev"})):
@@ -186,14 +179,14 @@ class Entrants(Contest):
             self.enter_peer(PLAIN, program)
 
     def enter_peer(self, column, program):
-        self.programs.append(Entrant(lambda row: [program, row.objects, row.threads, row.each], is_right_peer, whole(column)))
+        self.programs.append(Entrant([column], lambda row: [program, row.objects, row.threads, row.each], is_right_peer))
 
     def enter_crate(self):
         columns = self.wants(*PAIRS_WORDS)
         if columns and self.has(["crate"], *self.of_crates({})):
             program = built_by_cargo(CRATE, "--example", "pairs") / "examples/pairs"
             for column in columns:
-                self.programs.append(Entrant(self.asks(program, *PAIRS_WORDS[column]), is_right_crate, whole(column)))
+                self.programs.append(Entrant([column], self.asks(program, *PAIRS_WORDS[column]), is_right_crate))
 
     def enter_c(self):
         if self.wants(C) and self.has([C], *self.of_ours()):
@@ -204,19 +197,17 @@ class Entrants(Contest):
             return
         load = self.asks(self.pool or built("pool"), before=["load"])
         if not self.has([THREADS_OF_LOAD], (shutil.which(COMPILER), "C compiler")):
-            self.programs.append(Entrant(load, is_right_load, whole(LOAD)))
+            self.programs.append(Entrant([LOAD], load, is_right_load))
             return
         library, worked = preloaded("worked", self.folder, TOP / "bench"), self.folder / "worked"
 
         def times(report, seconds):
             """The time of the whole process, and that of its threads, if they told."""
-            if not worked.exists():
-                return {LOAD: seconds}
-            threads = float(worked.read_text())
-            worked.unlink()
-            return {LOAD: seconds, THREADS_OF_LOAD: threads}
+            told = [float(worked.read_text())] if worked.exists() else []
+            worked.unlink(missing_ok=True)
+            return [seconds, *told]
 
-        self.programs.append(Entrant(load, is_right_load, times, {"LD_PRELOAD": str(library), "WORKED": str(worked)}))
+        self.programs.append(Entrant([LOAD, THREADS_OF_LOAD], load, is_right_load, times, {"LD_PRELOAD": str(library), "WORKED": str(worked)}))
 
     def asks(self, program, *words, before=()):
         """The command of a program for each row, with settings that have a place for each object, and room for all entries if a journal is kept."""
