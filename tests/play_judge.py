@@ -10,7 +10,7 @@ with the lines that were written of the one before it.
 - Of each case with segments and a verdict all segments are judged, in an order by chance. Joined, they must be legal exactly where the verdict
   says so; where it does, what is written of each must be the lines of the next one's base.
 - Three segments are damaged: in each place a byte is changed, dropped or doubled. Joined, they must be legal exactly where those of
-  tests/pool_model.py are, and where `POOL check` over all of them says so.
+  tests/pool_model.py are. tests/play_segments.py has `POOL check` over the same.
 - The inputs of each case with a legal verdict are answered anew by tests/pool_model.py, whose settings change in the middle: from there on there is one
   place, or none, which the objects may exceed. Each segment must be legal with its own settings, and reach the next one's base. `POOL check` must find
   them legal with the new settings beside the second, and answer as the model without them.
@@ -196,14 +196,12 @@ def of_commands(judge, script, job, case):
     return [f"{case.name}, by the commands of the page: legal is {is_legal(case)}, {done}"] * (not is_right)
 
 
-def of_segments(judge, pool, name, settings, segments):
+def of_segments(judge, name, settings, segments):
     """What differs where segments are judged with the default settings."""
     legal = verdict_of_segments(settings_of(""), segments).startswith(b"legal")
     with scratch() as room:
-        paths = write_files(room, dict(enumerate(segments)))
-        joined = are_joined(segments, reached_by(judge, settings, paths, Chance(len(name))))
-        checked = run(pool, "check", settings, *paths)[2] == 0
-    return [f"{name}: legal is {legal}, joined {joined}, checked {checked}"] * ((joined, checked) != (legal, legal))
+        joined = are_joined(segments, reached_by(judge, settings, write_files(room, dict(enumerate(segments))), Chance(len(name))))
+    return [f"{name}: legal is {legal}, joined {joined}"] * (joined != legal)
 
 
 # Files by their names: what `judge FILE segment` prints of those that give no settings, ..
@@ -278,7 +276,7 @@ def trials(judge, pool, cases, defaults, room):
             yield of_change, judge, pool, case, 1 - number % 2
         yield from ((of_commands, judge, script, job, case) for script in scripts)
     for name, segments in damaged_segments():
-        yield of_segments, judge, pool, name, defaults, segments
+        yield of_segments, judge, name, defaults, segments
     yield from [(of_beside, pool), (of_uses, judge, defaults)]
     # The segments that another one follows, of the legal journals among the first twelve.
     for case, settings, paths in cases[:12]:
