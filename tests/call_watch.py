@@ -28,9 +28,9 @@ class Watch:
         self.waiting, self.signalled, self.asleep = {}, set(), set()
         # The ticket under which the call in a slot waits, and the slots of the calls that found something.
         self.tickets, self.served = {}, set()
-        # The id of the object that each slot makes, and the object that it holds with its token. The others are idle, or lent.
-        self.making, self.held, self.idle, self.lent = {}, {}, {}, {}
-        # The ids of the objects that were made, and were neither idle nor lent yet.
+        # The object that each slot holds, with its token, or `None` while it is made. The others are idle, or lent.
+        self.held, self.idle, self.lent = {}, {}, {}
+        # The ids of the objects that are made or were, and were neither idle nor lent yet.
         self.new = set()
         # The kind and the words of the last action of the call in each slot, and the number of reports since it was given up.
         self.kinds, self.actions, self.since = {}, {}, {}
@@ -49,7 +49,7 @@ class Watch:
         """Takes in the answer to a report that fits. The objects that were reclaimed have no place. Returns the tickets to wake."""
         before, action = self.actions[slot], lines[0].split(" ")
         has_destroyed = before[0] == "destroy" and report != "given-up"
-        had_nothing = has_destroyed or (slot not in self.held and slot not in self.making)
+        had_nothing = has_destroyed or slot not in self.held
         self.count_reports(slot, report, action)
         if before[0] == "sleep":
             expect("a call that sleeps goes on by a report of that", True, action[0] in ("sleep", "done") or report == "woken")
@@ -82,10 +82,11 @@ class Watch:
     def take_report(self, slot, before, report, token):
         """What a report changes: an object was made, or not; or one was destroyed."""
         if before[0] == "make":
-            id = self.making.pop(slot)
+            id, _ = self.held.pop(slot)
             if report == "made":
                 self.held[slot] = (id, token)
-                self.new.add(id)
+            else:
+                self.new.discard(id)
         elif before[0] == "destroy" and report != "given-up":
             id, _ = self.held.pop(slot)
             self.count(slot, id, "discarded", "destroyed")
@@ -110,14 +111,15 @@ class Watch:
         """What an action shows. Returns whether the call has an object, makes one, or was lent one."""
         if action[0] == "make":
             expect("a call that makes an object holds", None, self.held.get(slot))
-            self.making[slot] = int(action[1])
+            self.held[slot] = (int(action[1]), None)
+            self.new.add(int(action[1]))
         elif action[0] in WORK:
             expect("a detachment has no work", False, self.kinds[slot] == "detach")
             self.hold(slot, *map(int, action[1:]))
         elif action[0] == "done":
             self.take_end(slot, before, action[1:])
             return action[1] == "lent"
-        return slot in self.held or slot in self.making
+        return slot in self.held
 
     def take_end(self, slot, before, end):
         if end[0] == "lent":
@@ -131,7 +133,7 @@ class Watch:
         elif self.kinds[slot] in HANDED and slot in self.held and end[0] in ("cancelled", "journal-full") and before[0] in UNTOUCHED:
             # It took no step: its host still has the object.
             self.give_to(self.lent, slot)
-        expect("a call that is over holds", (None, None), (self.held.get(slot), self.making.get(slot)))
+        expect("a call that is over holds", None, self.held.get(slot))
 
     def hold(self, slot, id, token):
         """A call holds an object with this token: it did before, or the object was idle."""
@@ -187,7 +189,7 @@ class Watch:
         """The counts are those of the objects: one that is tested counts as idle, and one that its host is about to hand over as lent."""
         handed = [id for slot, (id, _) in self.held.items() if self.kinds[slot] in HANDED and self.actions[slot][0] in UNTOUCHED]
         lent = {*self.lent, *handed}
-        there = {*self.idle, *lent, *self.making.values(), *(id for id, _ in self.held.values())} - reclaimed
+        there = {*self.idle, *lent, *(id for id, _ in self.held.values())} - reclaimed
         if self.most_total is not None:
             expect("no more objects are there than maxTotal", True, len(there) <= self.most_total)
         idle, lent = len(self.idle) + self.tested(), len(lent - reclaimed)
@@ -214,11 +216,8 @@ class Watch:
             expect("the tickets to wake", asleep[: wanted - len(self.signalled)], woken)
             self.signalled.update(woken)
             self.asleep.difference_update(woken)
-        self.check_awake(idle + lent + reserved)
-        return woken
-
-    def check_awake(self, present):
-        """No wake is lost: as many tickets were woken, and did not look since, as there are objects to take and free places, or all that wait."""
+        # No wake is lost: as many tickets were woken, and did not look since, as there are objects to take and free places, or all that wait.
         if self.asleep and self.most_total is not None:
-            wanted = len(self.waiting) if self.closed else min(len(self.idle) + self.most_total - present, len(self.waiting))
-            expect("as many calls are awake as find something", True, len(self.waiting) - len(self.asleep) >= wanted)
+            wanted = waiting if self.closed else min(len(self.idle) + self.most_total - idle - lent - reserved, waiting)
+            expect("as many calls are awake as find something", True, waiting - len(self.asleep) >= wanted)
+        return woken
