@@ -98,6 +98,8 @@ QUICK = ("unproved", "rust-model", "case-files", "metrics", "names", "tables")
 
 JARS, CRATES = "/usr/share/java", "/usr/share/cargo/registry"
 PLUGINS = "/usr/share/maven-repo/org/apache/maven/plugins"
+# Maven's plugins, each in a package of its own, with the versions that it looks for.
+MAVEN_PLUGINS = {"antrun": "3.1.0", "compiler": "3.10.1", "install": "2.4", "jar": "3.3.0", "javadoc": "3.4.1", "resources": "2.6", "source": "3.2.1"}
 IN_JAVA = ("java", "drop-in", "maven", "java-random", "commons-random", "commons-pool", "benchmarks", "release", "postgres")
 OVER_POSTGRES = ("postgres", "benchmarks")
 
@@ -119,14 +121,8 @@ PACKAGES = (
     Package("libcommons-logging-java", f"{JARS}/commons-logging.jar", ("drop-in",)),
     Package("libh2-java", f"{JARS}/h2.jar", ("java", "drop-in", "release")),
     Package("maven", "mvn", ("maven",)),
-    Package("libmaven-antrun-plugin-java", f"{PLUGINS}/maven-antrun-plugin/3.1.0", ("maven",)),
-    Package("libmaven-compiler-plugin-java", f"{PLUGINS}/maven-compiler-plugin/3.10.1", ("maven",)),
     Package("libexec-maven-plugin-java", "/usr/share/maven-repo/org/codehaus/mojo/exec-maven-plugin/3.1.0", ("maven",)),
-    Package("libmaven-install-plugin-java", f"{PLUGINS}/maven-install-plugin/2.4", ("maven",)),
-    Package("libmaven-jar-plugin-java", f"{PLUGINS}/maven-jar-plugin/3.3.0", ("maven",)),
-    Package("libmaven-javadoc-plugin-java", f"{PLUGINS}/maven-javadoc-plugin/3.4.1", ("maven",)),
-    Package("libmaven-resources-plugin-java", f"{PLUGINS}/maven-resources-plugin/2.6", ("maven",)),
-    Package("libmaven-source-plugin-java", f"{PLUGINS}/maven-source-plugin/3.2.1", ("maven",)),
+    *(Package(f"libmaven-{name}-plugin-java", f"{PLUGINS}/maven-{name}-plugin/{version}", ("maven",)) for name, version in MAVEN_PLUGINS.items()),
     Package("libsurefire-java", f"{PLUGINS}/maven-surefire-plugin/2.12.4", ("maven",)),
     Package("junit5", f"{JARS}/junit-jupiter-engine.jar", ("commons-pool",)),
     Package("libcglib-java", f"{JARS}/cglib.jar", ("commons-pool",)),
