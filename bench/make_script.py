@@ -9,6 +9,13 @@ import random
 import sys
 
 CAPACITY = 8
+# What comes next for an object in a phase: the input, the phase after it, if it is there then, and how it may fail, after which it is destroyed.
+NEXT = {
+    "readying": ("ready", "lent", "activatefail"), "lent": ("return", "returning", None), "returning": ("park", "idle", "testfail"),
+    "destroying": ("destroyed", None, None),
+}
+# How likely it does not fail.
+GOOD = 0.95
 
 
 class Busy:
@@ -16,48 +23,28 @@ class Busy:
 
     def __init__(self, seed):
         self.random = random.Random(seed)
-        self.idle, self.readying, self.lent, self.returning, self.destroying = [], [], [], [], []
+        self.objects = {phase: [] for phase in ("idle", *NEXT)}
         self.next_id = 0
 
-    def present(self):
-        return sum(map(len, (self.idle, self.readying, self.lent, self.returning, self.destroying)))
-
-    def take_from(self, objects):
-        return objects.pop(self.random.randrange(len(objects)))
-
-    def borrow(self, at):
-        if self.idle:
-            self.readying.append(self.idle.pop())
-        elif self.present() < CAPACITY:
-            self.readying.append(self.next_id)
+    def borrow(self):
+        """An idle object is readied, or a new one if there is a place."""
+        if self.objects["idle"]:
+            self.objects["readying"].append(self.objects["idle"].pop())
+        elif sum(map(len, self.objects.values())) < CAPACITY:
+            self.objects["readying"].append(self.next_id)
             self.next_id += 1
-        return f"borrow {at}"
-
-    def ready(self, at):
-        i = self.take_from(self.readying)
-        good = self.random.random() < 0.95
-        (self.lent if good else self.destroying).append(i)
-        return f"ready {i} {'good' if good else 'activatefail'}"
-
-    def give_back(self, at):
-        i = self.take_from(self.lent)
-        self.returning.append(i)
-        return f"return {i}"
-
-    def park(self, at):
-        i = self.take_from(self.returning)
-        good = self.random.random() < 0.95
-        (self.idle if good else self.destroying).append(i)
-        return f"park {i} {'good' if good else 'testfail'}"
-
-    def destroyed(self, at):
-        return f"destroyed {self.take_from(self.destroying)}"
 
     def line(self, at):
-        may = [self.borrow, self.borrow]
-        may += [self.ready] * len(self.readying) + [self.give_back] * len(self.lent)
-        may += [self.park] * len(self.returning) + [self.destroyed] * len(self.destroying)
-        return self.random.choice(may)(at)
+        phase = self.random.choice(["borrow", "borrow", *(phase for phase in NEXT for _ in self.objects[phase])])
+        if phase == "borrow":
+            self.borrow()
+            return f"borrow {at}"
+        name, after, fault = NEXT[phase]
+        i = self.objects[phase].pop(self.random.randrange(len(self.objects[phase])))
+        is_good = not fault or self.random.random() < GOOD
+        if after:
+            self.objects[after if is_good else "destroying"].append(i)
+        return f"{name} {i} {'good' if is_good else fault}" if fault else f"{name} {i}"
 
 
 if __name__ == "__main__":
