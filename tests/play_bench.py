@@ -13,11 +13,9 @@ bench/soak must fail each report in which one number is wrong.
 Prints what fails, and in the end the line 'N passed, M failed'.
 """
 
-import os
 import pathlib
 import re
 import runpy
-import shutil
 import subprocess
 import sys
 import tempfile
@@ -27,7 +25,7 @@ from playing import NO_CARGO, TOP, has, play_checks, scratch, skip
 from postgres_server import Server
 
 import database_turns
-from contest import JAR, LIBRARY, LONGEST, REGISTRY, Miscounted, runs_cargo
+from contest import LIBRARY, LONGEST, Miscounted, runs_cargo
 from entrants import (
     C, CLOCK, COMMONS, COMMONS_HOOKS, COUNTER, HIKARI, HIKARI_JAR, HOOKS, IN_PLACE, JAVA, JAVA_HOOKS, LOAD, OF_JAVA, PLAIN, R2D2, Row,
     is_right_contestant,
@@ -148,17 +146,14 @@ def missing_peers(pool):
     yield "the end without packages", (["0 rows, 0 short"], 0, ""), ended(done)
 
 
-def present_peers(pool):
+def present_peers(pool, has_bag):
     """With all packages all columns come, and each row has a target."""
-    has_r2d2 = any(REGISTRY.glob("r2d2-[0-9]*"))
-    if not (shutil.which("javac") and JAR.exists()):
-        skip("the columns of bench/peers in Java", "not installed: Debian's default-jdk-headless or libcommons-pool2-java")
+    if not has("the columns of bench/peers in Java", "default-jdk-headless", "libcommons-pool2-java"):
         return
-    if not has_r2d2:
-        skip("the column r2d2 of bench/peers", "not installed: Debian's librust-r2d2-dev")
+    has_r2d2 = has("the column r2d2 of bench/peers", "librust-r2d2-dev")
     others = [R2D2, PLAIN] if has_r2d2 else [PLAIN]
-    done, bag = peers("--pool", pool), [HIKARI] if has_bag() else []
-    columns = [*OF_JAVA, *bag, *others, COUNTER, CLOCK, HOOKS, C, LOAD]
+    done = peers("--pool", pool)
+    columns = [*OF_JAVA, *[HIKARI] * has_bag, *others, COUNTER, CLOCK, HOOKS, C, LOAD]
     yield from tables_of_peers("with all packages", done, columns, [COMMONS, COMMONS_HOOKS, *others])
     for (our, peer), least in TARGETS.items():
         if has_r2d2 or peer != R2D2:
@@ -176,11 +171,7 @@ def chosen_peers():
     yield "no column", (2, True), (done.returncode, "invalid choice: 'crate'" in done.stderr)
 
 
-def has_bag():
-    return bool(shutil.which("javac")) and HIKARI_JAR.exists() and HIKARI_JAR.with_name("slf4j-api.jar").exists()
-
-
-def bag():
+def bag(has_bag):
     """HikariCP's bag is measured without Commons Pool 2, too. Without the jar of its logger it is named and left out."""
     with scratch() as folder:
         alone = folder / HIKARI_JAR.name
@@ -188,8 +179,7 @@ def bag():
         done = peers("--only", HIKARI, "--only", PLAIN, "--hikari", alone)
         line = f"left out: {HIKARI}: no libslf4j-java ({folder}/slf4j-api.jar)"
         yield "the bag without a logger", (True, 0), (line in done.stdout.splitlines() or done, done.returncode)
-    if not has_bag():
-        skip("HikariCP's bag in bench/peers", "not installed: Debian's default-jdk-headless, libhikaricp-java or libslf4j-java")
+    if not has_bag:
         return
     done = peers("--only", HIKARI, "--only", PLAIN, *ABSENT)
     shown = tables(done)
@@ -218,6 +208,14 @@ def counting():
     yield "a pair too few", (1, True), (done.returncode, "a run failed: 4 objects, 1 thread" in done.stderr or done)
 
 
+def outcome(work, *words):
+    """What a call returns, or the text of its error."""
+    try:
+        return str(work(*words))
+    except Miscounted as error:
+        return f"miscounted: {error}"
+
+
 def waits():
     """A right report of waits passes, and a wrong one is an error. A longest wait of more than three times r2d2's is told."""
     yield "a right report of waits", (30, 4), WAITS.waits_of(WAITED, 200)
@@ -225,10 +223,7 @@ def waits():
         yield f"a report of 200 waits: {report!r}", None, WAITS.waits_of(report, 200)
     yield "a program that is right", (30, 4), WAITS.waited(["printf", WAITED + "%.0s%.0s"], 10, 200)
     for command in ["printf", WAITED.replace("200", "199") + "%.0s%.0s"], ["false"]:
-        try:
-            yield f"{command}", "miscounted", WAITS.waited(command, 10, 200)
-        except Miscounted:
-            yield f"{command}", None, None
+        yield f"{command}", "miscounted", outcome(WAITS.waited, command, 10, 200).partition(":")[0]
     row = {R2D2: (30, 4), WAITS.THREADS: (90, 4), WAITS.TASKS: (91, 4), C: (0, 0), COMMONS: (1_000, 4)}
     yield "waits that are too long", ["", f"long: held for 10 µs: {WAITS.TASKS}: 91 µs, r2d2 30", ""], list(WAITS.looked_at(10, row))
     yield "a wait without r2d2's beside it", [], list(WAITS.looked_at(10, {JAVA: (1, 1)}))
@@ -260,8 +255,7 @@ def soak():
 
 def two_pools():
     """The C pool is measured beside itself, as it is and where it is named, if there is a C compiler."""
-    if not shutil.which(os.environ.get("CC", "cc")):
-        skip("bench/two_pools", "there is no C compiler: Debian's package gcc has one")
+    if not has("bench/two_pools", "gcc"):
         return
     form = r"first \d+ {0}, second \d+ {0}, ratio \d+\.\d\d\n"
     for builds in [], [TOP / "bindings/c", LIBRARY] * 2:
@@ -292,10 +286,8 @@ def players():
         bank = database_turns.Bank(server)
         for wanted, command in cases.items():
             with database_turns.Player("a player", command, pathlib.Path(name)) as player:
-                try:
-                    yield f"{command}", wanted, player.play(bank, 1, 0.1)
-                except Miscounted as error:
-                    yield f"{command}", True, wanted in str(error) or error
+                told = outcome(player.play, bank, 1, 0.1)
+                yield f"{command}", True, wanted in told or told
 
 
 def missing_database():
@@ -336,7 +328,8 @@ def checks(pool):
     if not runs_cargo():
         skip("bench/peers and bench/longest_waits", NO_CARGO)
         return
-    for part in missing_waits(), missing_peers(pool), counting(), chosen_peers(), bag(), present_peers(pool):
+    has_bag = has("HikariCP's bag in bench/peers", "default-jdk-headless", "libhikaricp-java", "libslf4j-java")
+    for part in missing_waits(), missing_peers(pool), counting(), chosen_peers(), bag(has_bag), present_peers(pool, has_bag):
         yield from part
 
 
