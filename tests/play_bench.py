@@ -24,7 +24,6 @@ import types
 from playing import NO_CARGO, TOP, has, play_checks, scratch, skip
 from postgres_server import Server
 
-import database_turns
 from contest import LIBRARY, LONGEST, Miscounted, runs_cargo
 from entrants import (
     C, CLOCK, COMMONS, COMMONS_HOOKS, COUNTER, HIKARI, HIKARI_JAR, HOOKS, IN_PLACE, JAVA, JAVA_HOOKS, LOAD, OF_JAVA, PLAIN, R2D2, Row,
@@ -268,12 +267,12 @@ def two_pools():
 
 def turns():
     """A right report of a turn passes, and a wrong one is an error. A ratio to the best other pool of the language that is too small is told."""
-    turn = database_turns.turn_of(PLAYED)
-    yield "a right turn", (database_turns.Turn(200, 1_000_000, 900), 200, []), (turn, turn.rate, list(database_turns.faults_of(turn, *SEEN)))
+    turn = database.turn_of(PLAYED)
+    yield "a right turn", (database.Turn(200, 1_000_000, 900), 200, []), (turn, turn.rate, list(database.faults_of(turn, *SEEN)))
     for report in WRONG_TURNS:
-        yield f"a report of a turn: {report!r}", None, database_turns.turn_of(report)
+        yield f"a report of a turn: {report!r}", None, database.turn_of(report)
     for seen in WRONG_SEEN:
-        yield f"a turn that the server saw as {seen}", 1, len(list(database_turns.faults_of(turn, *seen)))
+        yield f"a turn that the server saw as {seen}", 1, len(list(database.faults_of(turn, *seen)))
     rates = {database.JAVA: 969, database.DBCP: 1_000, database.HIKARI: 999, database.C: 970, database.LIST: 1_000, database.CRATE: 1}
     looked = list(database.looked_at(4, {column: (rate, 1) for column, rate in rates.items()}))
     yield "ratios that are too small", [f"short: 4 workers: {JAVA} / {database.DBCP} is 0.969, target 0.97", ""], looked
@@ -283,9 +282,9 @@ def players():
     """A program that reports transfers that were not made, or none, is an error."""
     cases = {"200 transfers are reported, and 0 were made": ["sed", "-u", f"s/.*/{PLAYED.strip()}/"], "its report is ''": ["false"]}
     with tempfile.TemporaryDirectory(ignore_cleanup_errors=True) as name, Server(pathlib.Path(name)) as server:
-        bank = database_turns.Bank(server)
+        bank = database.Bank(server)
         for wanted, command in cases.items():
-            with database_turns.Player("a player", command, pathlib.Path(name)) as player:
+            with database.Player("a player", command, pathlib.Path(name)) as player:
                 told = outcome(player.play, bank, 1, 0.1)
                 yield f"{command}", True, wanted in told or told
 
