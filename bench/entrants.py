@@ -47,8 +47,8 @@ class Row:
 
 @dataclasses.dataclass
 class Entrant:
-    """A program that does the work of a row, and its columns of the table. `is_right` checks its report; `times` returns the seconds of each column, from
-    the report and the seconds of the whole process, which count by themselves."""
+    """A program that does the work of a row, and its columns of the table. `is_right` checks its report; `times` returns the seconds of each column,
+    from the report and the seconds of the whole process, which count alone if nothing else is said."""
 
     columns: list[str]
     command: Callable[[Row], list]

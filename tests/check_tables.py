@@ -3,16 +3,16 @@
 
 check_tables.py  The last line is 'N passed, M failed'.
 
-Each setting has the default that the definitions say, in docs/guide/settings.md and in examples/settings.toml; the answers to each input are the
-same in docs/guide/program.md and docs/proof/definitions.md; each of them is given in the case that docs/proof/definitions.md names; docs/dev/trials.md
-has a row for each file of tests of the shared pool; the outstanding entries and the room of docs/guide/operations.md follow from the definitions; and
+Each setting has the default that the definitions say, in docs/guide/settings.md and in examples/settings.toml; the answers to each input are the same
+in docs/guide/program.md and docs/proof/definitions.md; each of them is given in the case that docs/proof/definitions.md names; docs/dev/trials.md has
+a row for each file of tests of the shared pool; the outstanding entries and the room of docs/guide/operations.md follow from the definitions; and
 docs/proof/edits.md has a row for each edit of crates/*/must-fail, in the section of its crate, which names the function that it changes, and several
 rows for one that makes a mistake in each of several functions. The name of each crate begins as its section of crates.txt requires,
-docs/dev/architecture.md has a paragraph on it, and docs/pictures/crates.svg shows what its script draws. Each move that a journal of the cases makes is
-in the table of moves in docs/guide/concepts.md, each outcome there is met by some move, and docs/pictures/life.svg shows the table.
-docs/guide/differences.md and docs/guide/commons-pool-tests.md name the same tests, for the same differences. Each ratio that the page of a language shows is that of
-docs/guide/speed.md, and docs/guide/platforms.md has the versions that the package files ask for; these have the licence. Each
-choice of docs/DECISIONS.md has an id of its group, and each id that a page or a source cites is there.
+docs/dev/architecture.md has a paragraph on it, and docs/pictures/crates.svg shows what its script draws. Each move that a journal of the cases makes
+is in the table of moves in docs/guide/concepts.md, each outcome there is met by some move, and docs/pictures/life.svg shows the table.
+docs/guide/differences.md and docs/guide/commons-pool-tests.md name the same tests, for the same differences. Each ratio that the page of a language
+shows is that of docs/guide/speed.md, and docs/guide/platforms.md has the versions that the package files ask for; these have the licence. Each choice
+of docs/DECISIONS.md has an id of its group, and each id that a page or a source cites is there.
 """
 
 import functools

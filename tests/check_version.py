@@ -5,8 +5,8 @@ header, the C library, the programs, the man page and the change log.
     check_version.py [PROGRAM..]
 
 Each constant VERSION in the sources of a crate is what a program prints: its name, the version and a line feed. Of the PROGRAMs, paths of
-such programs, that is what `--version` prints. What the C library returns, and its contract, is the version as one number. Prints each that differs, and
-in the end the line 'N passed, M failed'.
+such programs, that is what `--version` prints. What the C library returns, and its contract, is the version as one number. Prints each that differs,
+and in the end the line 'N passed, M failed'.
 """
 
 import pathlib

@@ -53,8 +53,8 @@ def launcher(folder):
 
 
 def refusals(library, mark, *words, **options):
-    """Runs a program with all allocations granted, and then once for each of them, which is refused then, by the library of refuse.c. Yields its number,
-    0 at first, and what came of the run. The file `mark` is there after a run in which one was refused."""
+    """Runs a program with all allocations granted, and then once for each of them, which is refused then, by the library of refuse.c. Yields its
+    number, 0 at first, and what came of the run. The file `mark` is there after a run in which one was refused."""
     for number in itertools.count():
         mark.unlink(missing_ok=True)
         settings = {"LD_PRELOAD": str(library), "REFUSED": str(mark), "REFUSE": str(number)}
