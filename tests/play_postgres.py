@@ -188,11 +188,6 @@ def end_some(server):
         time.sleep(APART)
 
 
-def restart(server):
-    server.stop()
-    server.start()
-
-
 def pause(server):
     """Stops the server as in a crash, for a while."""
     server.stop(signal.SIGQUIT)
@@ -202,7 +197,7 @@ def pause(server):
 
 FAILURES = {
     "processes that are ended": end_some,
-    "a restart": restart,
+    "a restart": Server.restart,
     "a server that is away": pause,
     "fewer connections than objects": lambda server: server.allow(FEW),
     "enough connections again": lambda server: server.allow(CONNECTIONS),

@@ -23,7 +23,7 @@ import sys
 
 from case_files import unpacked, wanted_of
 from play_damaged import Chance, damaged, journal_by_chance
-from playing import differing, launcher, run, scratch, side_by_side, tell, write_files
+from playing import differing, peak, run, scratch, side_by_side, tell, write_files
 from pool_model import cut_at, settings_of, verdict_of_segments
 
 # The most segments that are handed to one run.
@@ -111,24 +111,17 @@ def damaged_segments():
                 yield f"segment {index}, byte {at}", [*THREE[:index], changed, *THREE[index + 1 :]]
 
 
-def peak(room, command, on=None):
-    """The most memory that a run took, in KiB, and whether it ended well."""
-    note = room / "peak"
-    done = run(launcher(room), note, *command, preexec_fn=on)
-    return int(note.read_text()), done.returncode == 0
-
-
 def of_memory(pool, settings):
     """What differs in the memory of a thousand segments of 50 entries, and of the first of them alone."""
     read = settings_of("")
     segments = cut_at(read, journal_by_chance(read, 50_000), set(range(50, 50_000, 50)))
     with scratch() as room:
         none, *paths = write_files(room, {"none": b"", **dict(enumerate(segments))})
-        least, longest = (peak(room, [pool, "check", settings, path])[0] for path in (none, paths[0]))
-        (in_turn, is_well), (at_once, are_well) = (peak(room, [pool, "check", settings, *paths], on) for on in (on_one, None))
+        (_, least), (_, longest) = (peak(room, pool, "check", settings, path) for path in (none, paths[0]))
+        (alone, in_turn), (together, at_once) = (peak(room, pool, "check", settings, *paths, preexec_fn=on) for on in (on_one, None))
     files_at_once = FILES_PER_PROCESSOR * len(os.sched_getaffinity(0))
     most = least + files_at_once * (longest - least + 512)
-    if not (is_well and are_well) or in_turn > longest * 1.1 + 512 or at_once > most:
+    if alone.returncode or together.returncode or in_turn > longest * 1.1 + 512 or at_once > most:
         return [f"memory: {len(segments)} segments took {in_turn} KiB in turn and {at_once} at once; one took {longest}, none {least}"]
     return []
 

@@ -44,12 +44,14 @@ def preloaded(name, folder, sources=TESTS):
     return library
 
 
-def launcher(folder):
-    """The program that runs another one and notes the most memory that it took. It is built in the folder if it isn't there."""
-    built = pathlib.Path(folder).resolve() / "launcher"
-    if not built.exists():
-        subprocess.run([COMPILER, "-O1", "-o", built, TESTS / "peak.c"], check=True)
-    return built
+def peak(folder, *words, **options):
+    """Runs a program, by one that notes the most memory that it took, which is built in the folder if it isn't there. Returns what came of the run, and
+    that memory, in KiB."""
+    launcher, note = folder / "launcher", folder / "peak"
+    if not launcher.exists():
+        subprocess.run([COMPILER, "-O1", "-o", launcher, TESTS / "peak.c"], check=True)
+    done = run(launcher, note, *words, **options)
+    return done, int(note.read_text())
 
 
 def refusals(library, mark, *words, **options):

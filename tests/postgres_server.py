@@ -114,21 +114,21 @@ class Server:
         self.process.send_signal(number)
         self.process.wait(LONGEST)
 
+    def restart(self):
+        self.stop()
+        self.start()
+
     def answer(self, command, database="postgres"):
         """What the server answers the superuser, without the last line feed; or `None` if it fails. Tries again if attempts of the role, which the
         server is about to refuse, have taken the reserved connections."""
+        words = [PROGRAMS / "psql", "-XAtq", "-v", "ON_ERROR_STOP=1", "-h", self.folder, "-p", str(self.port), "-U", "postgres", "-d", database]
+        options = {"input": command, "capture_output": True, "text": True, "timeout": LONGEST}
         for _ in range(TRIES):
-            done = self.run(command, database)
+            done = subprocess.run(words, env=os.environ | {"PGCONNECT_TIMEOUT": "5"}, **options)
             if "too many clients already" not in done.stderr:
                 break
             time.sleep(0.02)
         return done.stdout.removesuffix("\n") if done.returncode == 0 else None
-
-    def run(self, command, database):
-        """Runs a command as the superuser."""
-        words = [PROGRAMS / "psql", "-XAtq", "-v", "ON_ERROR_STOP=1", "-h", self.folder, "-p", str(self.port), "-U", "postgres", "-d", database]
-        options = {"input": command, "capture_output": True, "text": True, "timeout": LONGEST}
-        return subprocess.run(words, env=os.environ | {"PGCONNECT_TIMEOUT": "5"}, **options)
 
     def ask(self, command, database="postgres"):
         """The same of a command that must succeed."""
@@ -140,8 +140,7 @@ class Server:
     def allow(self, most):
         """Restarts the server with a limit of connections of the role."""
         self.ask(f"ALTER SYSTEM SET max_connections = {most + RESERVED}")
-        self.stop()
-        self.start()
+        self.restart()
 
     def backends(self):
         """The processes that serve the role; or `None` if the server does not answer."""
