@@ -34,7 +34,7 @@ import urllib.request
 import openmetrics
 from playing import NO_CARGO, TOP, has, play_checks, skip, stored_journal
 from play_library import compiled
-from postgres_server import ROLE, SHARED, TABLES, WRONG, Server, end_with_parent, free_port, sessions_of
+from postgres_server import ROLE, SHARED, TABLES, WRONG, Server, end_by, end_with_parent, free_port, sessions_of
 
 import java
 from contest import REGISTRY, built_by_cargo, runs_cargo
@@ -371,14 +371,8 @@ def checks(library, pool):
                 yield from played(example, server, pool, folder)
 
 
-def end(number, _):
-    """Ends by a signal, and the server with it."""
-    sys.exit(f"ended by {signal.Signals(number).name}\n0 passed, 1 failed")
-
-
 def main(library, pool):
-    for number in signal.SIGTERM, signal.SIGHUP, signal.SIGALRM:
-        signal.signal(number, end)
+    end_by(signal.SIGTERM, signal.SIGHUP, signal.SIGALRM, last="\n0 passed, 1 failed")
     signal.alarm(LONGEST)
     return play_checks(checks(pathlib.Path(library), pathlib.Path(pool)) if has("the examples over PostgreSQL", "postgresql") else ())
 

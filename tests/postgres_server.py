@@ -8,6 +8,7 @@ import re
 import signal
 import socket
 import subprocess
+import sys
 import time
 
 # The programs of the newest server that Debian's packages have installed.
@@ -65,6 +66,12 @@ def other_user():
 def end_with_parent(number):
     """Has the system send this process a signal when the thread that began it ends, even if that is killed."""
     LIBC.prctl(PR_SET_PDEATHSIG, number)
+
+
+def end_by(*numbers, last=""):
+    """Has this process end by these signals, and the server with it, with a line that says so and what comes last."""
+    for number in numbers:
+        signal.signal(number, lambda number, _: sys.exit(f"ended by {signal.Signals(number).name}{last}"))
 
 
 class Server:
