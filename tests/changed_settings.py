@@ -7,8 +7,6 @@ segment in one that has the segment's position too.
 import re
 import subprocess
 
-from pool_model import Pool, settings_of, verdict_of_segment
-
 # The base before all entries.
 EMPTY_BASE = b"pool-journal 2 0 0 open none 0 0 0 0\n"
 POSITION = re.compile(r"\d{20}")
@@ -35,22 +33,8 @@ def with_settings(folder):
 
 
 def judged(judge, folder):
-    """What is wrong with a segment, or nothing; and how many entries there are, in all segments. Each is legal with its settings, and begins at the
-    base that the one before it reached. JUDGE is the program `judge`, or nothing: then tests/pool_model.py judges."""
-    return judged_by(judge, folder) if judge else judged_by_model(folder)
-
-
-def judged_by_model(folder):
-    pool = Pool(settings_of(""))
-    for index, (settings, segment) in enumerate(with_settings(folder)):
-        pool.settings = settings_of(settings.read_text())
-        verdict = verdict_of_segment(pool, index, segment.read_bytes())
-        if verdict:
-            return f"{segment.name} with {settings.name}: {verdict.decode()}", 0
-    return (None, pool.position) if pool.position else ("no segments", 0)
-
-
-def judged_by(judge, folder):
+    """What is wrong with a segment, or nothing; and how many entries there are, in all segments. Each is legal with its settings, by the program
+    `judge`, and begins at the base that the one before it reached."""
     reached = None
     for settings, segment in with_settings(folder):
         done, text = subprocess.run([judge, settings, segment], capture_output=True), segment.read_bytes()

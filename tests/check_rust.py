@@ -3,7 +3,7 @@
 
     check_rust.py POOL [JUDGE]
 
-POOL and JUDGE are the programs `pool` and `judge`; without JUDGE, tests/pool_model.py judges. The crate's tests are cargo's: those in its files, in
+POOL and JUDGE are the programs `pool` and `judge`, or POOL is tests/model_program.py, alone. The crate's tests are cargo's: those in its files, in
 tests/ and in its pages. The segments that the examples `first_loan` and `servers` store are judged by the program; what the example `settings` writes
 of a file must be what Python reads there; the example `pairs` must make as many entries as its rounds are, whatever becomes of its journal, and the
 segments that it stores are judged too; the segments of pools whose settings change, which a test stores, are legal with the settings that each has;
@@ -147,11 +147,12 @@ def check_metrics(file):
 
 
 def check_changes(judge, pool, folder):
-    """The journals that a test stores of pools whose settings change: each segment alone, and all of them by one check."""
+    """The journals that a test stores of pools whose settings change: each segment alone, if there is `judge`, and all of them by one check."""
     journals = sorted(folder.iterdir()) if folder.is_dir() else []
     yield "there are journals of pools whose settings change", True, bool(journals)
     for journal in journals:
-        yield f"{journal.name}: each segment", None, changed_settings.judged(judge, journal)[0]
+        if judge:
+            yield f"{journal.name}: each segment", None, changed_settings.judged(judge, journal)[0]
         yield f"{journal.name}: all segments", *stored_journal(pool, journal)
 
 

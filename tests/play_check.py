@@ -259,10 +259,8 @@ def jobs(trial):
     os.sched_setaffinity(0, {min(before)})
     trial.check("proofs")
     yield "a job for the processor", "rt ci repository 1\n", trial.calls.read_text()
-    trial.environment["RT_JOBS"] = "3"
-    trial.check("proofs")
+    trial.check("proofs", RT_JOBS="3")
     yield "as many as the caller says", "rt ci repository 3\n", trial.calls.read_text()
-    trial.environment.pop("RT_JOBS")
     os.sched_setaffinity(0, before)
 
 

@@ -34,6 +34,7 @@ import sys
 import playing
 from argument_rules import version
 from case_files import unpacked, wanted_of
+from changed_settings import EMPTY_BASE as EMPTY
 from play_commands import TOP, blocks, commands
 from play_damaged import Chance
 from play_segments import THREE, damaged_segments, play_trials, segmented
@@ -52,10 +53,6 @@ def base_lines(segment):
     if words[:1] != [b"pool-journal"] or not words[-1].isdigit():
         return b""
     return b"".join(lines[: 1 + int(words[-1])])
-
-
-# The base before all entries, as it is written.
-EMPTY = b"pool-journal 2 0 0 open none 0 0 0 0\n"
 
 
 def are_joined(segments, reached):
