@@ -10,8 +10,6 @@ comes by a pipe whose end is held back, so that the program is killed before it 
 Prints each moment where that isn't so, and in the end the line 'N passed, M failed'.
 """
 
-import fcntl
-import os
 import subprocess
 import sys
 
@@ -31,26 +29,21 @@ def entries():
 
 
 def killed_after(command, script, count):
-    """What the program has written when it is killed after so many bytes of it were read, and how it ended. Its pipe has the whole script."""
-    theirs, ours = os.pipe()
-    fcntl.fcntl(ours, fcntl.F_SETPIPE_SZ, len(script))
-    os.write(ours, script)
-    with subprocess.Popen(command, stdin=theirs, stdout=subprocess.PIPE) as process:
-        os.close(theirs)
-        output = b""
-        while len(output) < count and (more := os.read(process.stdout.fileno(), count - len(output))):
-            output += more
-        process.kill()
-        output += process.stdout.read()
-    os.close(ours)
+    """What the program has written when it is killed after so many bytes of it were read, and how it ended. Its pipe has no end after the script."""
+    with subprocess.Popen(["sh", "-c", 'cat "$1"; exec sleep 60', "sh", script], stdout=subprocess.PIPE) as text:
+        with subprocess.Popen(command, stdin=text.stdout, stdout=subprocess.PIPE) as process:
+            output = process.stdout.read(count)
+            process.kill()
+            output += process.stdout.read()
+        text.kill()
     return output, process.returncode
 
 
 def wrong(pool, folder, journal, count):
     """What is wrong where the program is killed after so many bytes, if anything."""
     name = f"killed after {count} bytes"
-    (settings,) = write_files(folder, {"settings.toml": b"maxTotal = -1\nmaxIdle = -1\n"})
-    output, status = killed_after([pool, "run", settings, "/dev/stdin"], script_of(journal), count)
+    settings, script = write_files(folder, {"settings.toml": b"maxTotal = -1\nmaxIdle = -1\n", "script": script_of(journal)})
+    output, status = killed_after([pool, "run", settings, "/dev/stdin"], script, count)
     if status != -9:
         return [f"{name}: the program ended with status {status}"]
     if len(output) < count or not journal.startswith(output):
