@@ -3,8 +3,8 @@
 
     play_terminal.py POOL
 
-POOL is the program. Standard error is a terminal of the test's own, or a pipe. It judges a journal that comes slowly, from a pipe with a
-name; and it is used with wrong arguments and with files that have errors. At a terminal the lines of an error must be those that
+POOL is the program. Standard error is a terminal of the test's own, or a pipe. It judges a journal that comes slowly, from standard
+input; and it is used with wrong arguments and with files that have errors. At a terminal the lines of an error must be those that
 crates/pool_tasks/specs/Hints.antt says, and to a pipe the first of them.
 
 Prints each case that differs, and in the end the line 'N passed, M failed'.
@@ -17,11 +17,9 @@ import pty
 import re
 import subprocess
 import sys
-import threading
-import time
 
 from play_program import PLAIN_LIFE
-from playing import play_checks, scratch
+from playing import play_checks, scratch, write_files
 
 ENTRY = b"7 0 use 0 = refused notlent\n"
 # More than is read at once, and longer apart than a second.
@@ -83,15 +81,6 @@ HINTS = [
 ]
 
 
-def feed(path, pieces, last):
-    """Writes pieces of a journal, with pauses between them."""
-    with open(path, "wb", buffering=0) as pipe:
-        for number in range(pieces):
-            time.sleep(PAUSE if number else 0)
-            pipe.write(ENTRY * PIECE)
-        pipe.write(last)
-
-
 def read_all(end):
     """All that is written to a terminal, until nobody has it open."""
     told = b""
@@ -101,10 +90,10 @@ def read_all(end):
     return told
 
 
-def ended(command, folder, at_terminal):
+def ended(command, folder, at_terminal, given=subprocess.DEVNULL):
     """What a program writes to standard output, and to standard error, which is a terminal or a pipe, and its status."""
     ours, theirs = pty.openpty() if at_terminal else os.pipe()
-    run = subprocess.Popen(command, cwd=folder, stdin=subprocess.DEVNULL, stdout=subprocess.PIPE, stderr=theirs)
+    run = subprocess.Popen(command, cwd=folder, stdin=given, stdout=subprocess.PIPE, stderr=theirs)
     os.close(theirs)
     told = read_all(ours)
     os.close(ours)
@@ -112,22 +101,16 @@ def ended(command, folder, at_terminal):
 
 
 def judge(pool, folder, pieces, last, at_terminal):
-    """How the program ends that checks a journal which comes slowly."""
-    journal = folder / "journal"
-    journal.unlink(missing_ok=True)
-    os.mkfifo(journal)
-    (folder / "defaults.toml").write_text("")
-    feeder = threading.Thread(target=feed, args=(journal, pieces, last))
-    feeder.start()
-    found = ended([pool, "check", "defaults.toml", "journal"], folder, at_terminal)
-    feeder.join()
-    return found
+    """How the program ends that checks a journal which comes slowly: in pieces, with pauses between them."""
+    write_files(folder, {"defaults.toml": b"", "piece": ENTRY * PIECE, "last": last})
+    slowly = f"; sleep {PAUSE}; ".join(["cat piece"] * pieces)
+    with subprocess.Popen(["sh", "-c", f"{slowly}; cat last"], cwd=folder, stdout=subprocess.PIPE) as journal:
+        return ended([pool, "check", "defaults.toml", "/dev/stdin"], folder, at_terminal, journal.stdout)
 
 
 def hint_cases(pool, folder):
     """Each use with an error, what it must tell a terminal or a pipe, and what it tells."""
-    for name, contents in FILES.items():
-        (folder / name).write_bytes(contents)
+    write_files(folder, FILES)
     (folder / "folder").mkdir()
     for words, (first, *hints) in HINTS:
         lines = [f"pool: {first}", *(f"  {hint}" for hint in hints)]
@@ -141,7 +124,7 @@ def progress_cases(pool, folder):
     far it is, and then a fault."""
     wrong = ENTRY.replace(b"refused notlent", b"gone")
     legal, illegal = b"legal %d\n", b"illegal %d refused notlent\n" % (3 * PIECE)
-    fault = b"pool: line %d: not a line\r\n  in journal\r\n" % (3 * PIECE + 1)
+    fault = b"pool: line %d: not a line\r\n  in /dev/stdin\r\n" % (3 * PIECE + 1)
     cases = [
         ("slow", (3, b"", True), legal % (3 * PIECE), TOLD, b"", 0),
         ("illegal", (3, wrong, True), illegal, TOLD, b"", 1),
