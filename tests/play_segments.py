@@ -28,6 +28,8 @@ from pool_model import cut_at, settings_of, verdict_of_segments
 
 # The most segments that are handed to one run.
 MOST_SEGMENTS = 400
+# The words before a command by which it has one processor, so that files are judged one after the other.
+ON_ONE = "/usr/bin/taskset", "--cpu-list", str(min(os.sched_getaffinity(0)))
 # How many files the program judges side by side for each processor.
 FILES_PER_PROCESSOR = 4
 THREE = [
@@ -53,11 +55,6 @@ THREE = [
 ]
 
 
-def on_one():
-    """Leaves one processor to the run, so that files are judged one after the other."""
-    os.sched_setaffinity(0, {min(os.sched_getaffinity(0))})
-
-
 def checked(name, command, wanted):
     """What differs in a run of the program."""
     return differing(name, wanted, run(*command))
@@ -65,7 +62,7 @@ def checked(name, command, wanted):
 
 def checked_anyhow(name, command, wanted):
     """What differs on all processors, or else on one."""
-    return checked(name, command, wanted) or differing(f"{name}, on one processor", wanted, run(*command, preexec_fn=on_one))
+    return checked(name, command, wanted) or differing(f"{name}, on one processor", wanted, run(*ON_ONE, *command))
 
 
 def judged(pool, name, settings, segments, verdict, compare=checked):
@@ -118,7 +115,7 @@ def of_memory(pool, settings):
     with scratch() as room:
         none, *paths = write_files(room, {"none": b"", **dict(enumerate(segments))})
         (_, least), (_, longest) = (peak(room, pool, "check", settings, path) for path in (none, paths[0]))
-        (alone, in_turn), (together, at_once) = (peak(room, pool, "check", settings, *paths, preexec_fn=on) for on in (on_one, None))
+        (alone, in_turn), (together, at_once) = (peak(room, *words, pool, "check", settings, *paths) for words in (ON_ONE, ()))
     files_at_once = FILES_PER_PROCESSOR * len(os.sched_getaffinity(0))
     most = least + files_at_once * (longest - least + 512)
     if alone.returncode or together.returncode or in_turn > longest * 1.1 + 512 or at_once > most:
