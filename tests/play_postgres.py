@@ -34,7 +34,7 @@ import urllib.request
 import openmetrics
 from playing import NO_CARGO, TOP, has, play_checks, skip, stored_journal
 from play_library import compiled
-from postgres_server import ROLE, SHARED, TABLES, WRONG, Server, end_by, end_with_parent, free_port, sessions_of
+from postgres_server import ROLE, SHARED, TABLES, WITH_PARENT, WRONG, Server, end_by, free_port, sessions_of
 
 import java
 from contest import REGISTRY, built_by_cargo, runs_cargo
@@ -148,7 +148,7 @@ class Program:
         self.errors = folder / "errors"
         with open(self.errors, "wb") as errors:
             options = {"stdin": subprocess.DEVNULL, "stdout": writer, "stderr": errors}
-            self.process = subprocess.Popen(list(map(str, command)), preexec_fn=lambda: end_with_parent(signal.SIGKILL), **options)
+            self.process = subprocess.Popen([*WITH_PARENT, "KILL", *map(str, command)], **options)
         os.close(writer)
         self.output = open(reader, "rb")
 

@@ -1,6 +1,5 @@
 """A server of PostgreSQL in a folder, which ends with this process; and what it has seen of its clients."""
 
-import ctypes
 import os
 import pathlib
 import pwd
@@ -14,7 +13,8 @@ import time
 # The programs of the newest server that Debian's packages have installed.
 PROGRAMS = max(pathlib.Path("/usr/lib/postgresql").glob("*/bin"), key=lambda path: float(path.parent.name), default=None)
 ROLE = "bank"
-LIBC, PR_SET_PDEATHSIG = ctypes.CDLL(None), 1
+# The words before a command, and before the name of a signal, by which the system sends it that signal once the thread that began it ends or is killed.
+WITH_PARENT = "setpriv", "--pdeathsig"
 # A server or a command that takes longer hangs, in seconds.
 LONGEST = 180
 SETTINGS = """listen_addresses = '127.0.0.1'
@@ -63,11 +63,6 @@ def other_user():
     return {"user": entry.pw_uid, "group": entry.pw_gid, "extra_groups": []}
 
 
-def end_with_parent(number):
-    """Has the system send this process a signal when the thread that began it ends, even if that is killed."""
-    LIBC.prctl(PR_SET_PDEATHSIG, number)
-
-
 def end_by(*numbers, last=""):
     """Has this process end by these signals, and the server with it, with a line that says so and what comes last."""
     for number in numbers:
@@ -108,8 +103,7 @@ class Server:
         """Starts the server, and waits until it answers."""
         with open(self.log, "ab") as log:
             options = {"cwd": self.folder, "stdin": subprocess.DEVNULL, "stdout": log, "stderr": log, **self.user}
-            words = [PROGRAMS / "postgres", "-D", self.data]
-            self.process = subprocess.Popen(words, preexec_fn=lambda: end_with_parent(signal.SIGQUIT), **options)
+            self.process = subprocess.Popen([*WITH_PARENT, "QUIT", PROGRAMS / "postgres", "-D", self.data], **options)
         until = time.monotonic() + LONGEST
         while self.answer("SELECT 1") is None:
             if time.monotonic() > until or self.process.poll() is not None:
