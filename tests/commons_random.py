@@ -14,10 +14,10 @@ end the line 'N passed, M failed'.
 """
 
 import argparse
+import collections
 import pathlib
 import re
 import sys
-import typing
 
 from check_names import tables
 from play_java import play_with_java, program, run_java
@@ -33,17 +33,8 @@ PROGRAM = TOP / "tests/commons_random"
 RUNS, SHOWN, RUNS_OF_MISTAKE = 300, 3, 40
 CALLS = re.compile(r"^(\d+) calls in ", flags=re.MULTILINE)
 MET = re.compile(r"^met (\d+) times: (.+)$", flags=re.MULTILINE)
-
-
-class Mistake(typing.NamedTuple):
-    """A wrong pool for Java: one piece of a file, and what is in its place."""
-
-    name: str
-    file: str
-    right: str
-    wrong: str
-
-
+# A wrong pool for Java: one piece of a file, and what is in its place.
+Mistake = collections.namedtuple("Mistake", "name file right wrong")
 MISTAKES = (
     Mistake("another object is lent", "CoreSettings", "config.getLifo()", "!config.getLifo()"),
     Mistake("a count is off by one", "Sections", "report != Core.REPORT_SUCCEEDED ? 1 : 0;", "report != Core.REPORT_SUCCEEDED ? 2 : 0;"),

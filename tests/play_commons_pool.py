@@ -17,6 +17,7 @@ Prints what fails, and in the end the line 'N passed, M failed'.
 """
 
 import argparse
+import collections
 import contextlib
 import hashlib
 import http.client
@@ -56,6 +57,8 @@ MACHINES = 12
 SHORT_RUN = ("-XX:TieredStopAtLevel=1", "-XX:+UseSerialGC", "-XX:-UsePerfData")
 # How long a test may take, and all tests of one machine, in seconds.
 TEST_SECONDS, MACHINE_SECONDS = 60, 240
+# What came of a test: how it ended, for how many milliseconds it ran, and what it threw.
+Result = collections.namedtuple("Result", "end millis thrown", defaults=["not run", 0, ""])
 # How often a test runs again that does not end as the page says. If more than so many do not, none runs again.
 REPEATS, MOST_REPEATED = 2, 8
 
@@ -84,14 +87,6 @@ class Page(typing.NamedTuple):
     def wanted(self, test):
         """How a test in scope is to end."""
         return f"failed:{self.failing[test]}" if test in self.failing else "passed"
-
-
-class Result(typing.NamedTuple):
-    """What came of a test: how it ended, for how many milliseconds it ran, and what it threw."""
-
-    end: str = "not run"
-    millis: int = 0
-    thrown: str = ""
 
 
 def read_page():

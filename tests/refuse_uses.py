@@ -13,7 +13,7 @@ memory' and no output may replace the answer. No use can do without its first al
 Prints each run that is wrong, and in the end the line 'N passed, M failed'.
 """
 
-import dataclasses
+import collections
 import itertools
 import pathlib
 import sys
@@ -29,16 +29,8 @@ EACH, SCRIPT = 4, "worked/loans/two_objects_fifo"
 LONGEST = 20_000
 # What is told of the settings beside a segment.
 BESIDE = b"the settings beside "
-
-
-@dataclasses.dataclass
-class Use:
-    """Arguments of the program, what is on its standard input, its answer: output, error, status; and whether the words name a task."""
-
-    arguments: list
-    answer: tuple
-    given: bytes = b""
-    is_task: bool = True
+# A use: arguments of the program, its answer (output, error, status), what is on its standard input, and whether the words name a task.
+Use = collections.namedtuple("Use", "arguments answer given is_task", defaults=[b"", True])
 
 
 def uses():
