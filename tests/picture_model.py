@@ -2,6 +2,7 @@
 
 import bisect
 import dataclasses
+import types
 
 TAKEN = {"take": "Readying", "test": "Testing", "destroyidle": "Destroying", "reclaimed": "Gone"}
 OF_INPUT = {"lent": "Lent", "check": "Returning", "parked": "Idle", "kept": "Idle", "destroy": "Destroying", "freed": "Gone"}
@@ -44,18 +45,10 @@ class Entry:
             yield "failed tests"
 
 
-@dataclasses.dataclass
-class Journal:
-    """The entries of a journal's text, and how it begins."""
-
-    position: int
-    base: list  # the objects at its beginning: id, phase, the time when it was lent, the time when it was parked
-    entries: list
-
-
 def read(text):
-    """The journal in the text of one file, or of some that follow one another."""
-    journal, lines, is_first = Journal(0, [], []), iter(text.splitlines()), True
+    """The journal in the text of one file, or of some that follow one another: its position, its entries, and its base, which has the objects at its
+    beginning (id, phase, the time when it was lent, the time when it was parked)."""
+    journal, lines, is_first = types.SimpleNamespace(position=0, base=[], entries=[]), iter(text.splitlines()), True
     for line in lines:
         words = line.split(" ")
         if words[0] == "pool-journal":
