@@ -171,6 +171,11 @@ def listing(trial):
     yield "the list", (names, 0, "", []), ([line.split()[0] for line in done.lines], done.status, done.errors, done.calls)
     yield "what quick tests", "quick    brief small late library", done.lines[-1]
     yield "what a part tests", "small    needs nothing", done.lines[5]
+    reader, writer = os.pipe()
+    os.close(reader)
+    unread = subprocess.run([trial.top / "check", "--list"], stdout=writer, stderr=subprocess.PIPE)
+    os.close(writer)
+    yield "a list whose reader is gone", (b"", -signal.SIGPIPE), (unread.stderr, unread.returncode)
     for name, hint in ("smalls", "did you mean small? "), ("xxxxxxxx", ""):
         told = f"check: there is no part {name}: {hint}./check --list names them all\n"
         yield f"the name {name}", ([], 2, told, []), trial.check("small", name)
