@@ -264,58 +264,53 @@ fn others_continue_while_a_segment_is_written<const HOOKS: bool>() {
     });
 }
 
-fn a_reclaim_waits_for_a_segment_as_long_as_its_borrow_may<const HOOKS: bool>() {
+/// The answers of calls that are made while another thread writes a segment of a pool, or an error if they wait for the end of that.
+fn while_written<const HOOKS: bool, T: Send>(
+    change: impl FnOnce(Builder<Numbers<HOOKS>>) -> Builder<Numbers<HOOKS>>,
+    calls: impl FnOnce(&Pool<Numbers<HOOKS>>) -> T,
+) -> Result<T, mpsc::RecvTimeoutError> {
     let (slow, is_called, go_on) = Slow::new();
-    let abandoned = Abandoned::new().on_borrow(true);
-    let builder = Pool::builder()
-        .journal(Journal::Segments(Segments::new(slow).limit(200)))
-        .abandoned(abandoned)
-        .max_wait(LONGEST);
+    let segments = Segments::new(slow).limit(200);
+    let builder = change(Pool::builder().journal(Journal::Segments(segments)));
     let pool = builder.build(Numbers::<HOOKS>).unwrap();
-    let (refused, are_refused) = mpsc::channel();
+    let (answers, are_answered) = mpsc::channel();
     thread::scope(|scope| {
         scope.spawn(|| (0..30).for_each(|_| pair(&pool)));
         is_called.recv().unwrap();
         // The segment is written in the end, so that a borrow that waits for it ends too.
         let writing = scope.spawn(move || {
-            let answers = are_refused.recv_timeout(LONGEST / 4);
+            let answers = are_answered.recv_timeout(LONGEST / 4);
             drop(go_on);
             answers
         });
+        let _ = answers.send(calls(&pool));
+        writing.join().unwrap()
+    })
+}
+
+fn a_reclaim_waits_for_a_segment_as_long_as_its_borrow_may<const HOOKS: bool>() {
+    let abandoned = Abandoned::new().on_borrow(true);
+    let change = |builder: Builder<_>| builder.abandoned(abandoned).max_wait(LONGEST);
+    let answers = while_written::<HOOKS, _>(change, |pool| {
         // In the end there is no room for the entry of a reclaim either.
         let hasty = (0..200).filter_map(|_| pool.try_get().map(drop).err());
         let hasty: Vec<_> = hasty.collect();
         let short = Duration::from_millis(10);
         let patient = pool.get_timeout(short).map(drop).err();
-        let _ = refused.send((hasty.last().copied(), patient));
-        let answers = writing.join().unwrap();
-        let full = Some(Error::JournalFull);
-        assert_eq!(answers, Ok((full, full)), "they waited for it");
+        (hasty.last().copied(), patient)
     });
+    let full = Some(Error::JournalFull);
+    assert_eq!(answers, Ok((full, full)), "they waited for it");
 }
 
 fn a_borrow_waits_for_a_segment_no_longer_than_is_set<const HOOKS: bool>() {
-    let (slow, is_called, go_on) = Slow::new();
-    let builder = Pool::builder()
-        .journal(Journal::Segments(Segments::new(slow).limit(200)))
-        .max_wait(Duration::from_millis(10));
-    let pool = builder.build(Numbers::<HOOKS>).unwrap();
-    let (refused, is_refused) = mpsc::channel();
-    thread::scope(|scope| {
-        scope.spawn(|| (0..30).for_each(|_| pair(&pool)));
-        is_called.recv().unwrap();
-        // The segment is written in the end, so that a borrow that waits for it ends too.
-        let writing = scope.spawn(move || {
-            let answer = is_refused.recv_timeout(LONGEST / 4);
-            drop(go_on);
-            answer
-        });
+    let change = |builder: Builder<_>| builder.max_wait(Duration::from_millis(10));
+    let answers = while_written::<HOOKS, _>(change, |pool| {
         let hasty = std::iter::repeat_with(|| pool.try_get().map(drop)).find_map(Result::err);
-        assert_eq!(hasty, Some(Error::JournalFull));
-        let _ = refused.send(pool.get_timeout(LONGEST).map(drop));
-        let answer = writing.join().unwrap();
-        assert_eq!(answer, Ok(Err(Error::JournalFull)), "it waited for it");
+        (hasty, pool.get_timeout(LONGEST).map(drop).err())
     });
+    let full = Some(Error::JournalFull);
+    assert_eq!(answers, Ok((full, full)), "it waited for it");
 }
 
 fn a_borrow_that_waits_for_a_segment_goes_on_once_there_is_room<const HOOKS: bool>() {
