@@ -61,7 +61,10 @@ impl Drop for Noted {
 }
 
 /// Makes numbers, and notes in a folder which ones were destroyed.
-struct Noting(PathBuf, Noted);
+struct Noting {
+    folder: PathBuf,
+    _end: Noted,
+}
 
 impl Manager for Noting {
     type Object = u64;
@@ -72,7 +75,7 @@ impl Manager for Noting {
     }
 
     fn destroy(&self, id: u64) {
-        fs::write(self.0.join(format!("destroyed {id}")), "").unwrap();
+        fs::write(self.folder.join(format!("destroyed {id}")), "").unwrap();
     }
 }
 
@@ -89,7 +92,11 @@ fn pool_in(folder: &Path, change: impl FnOnce(Builder<Noting>) -> Builder<Noting
         let _ = &receiver;
     });
     let builder = change(builder.journal(Journal::Segments(segments)));
-    let pool = builder.build(Noting(folder.to_owned(), manager)).unwrap();
+    let manager = Noting {
+        folder: folder.to_owned(),
+        _end: manager,
+    };
+    let pool = builder.build(manager).unwrap();
     drop(pool.get().unwrap());
     pool
 }
