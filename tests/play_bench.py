@@ -273,9 +273,10 @@ def turns():
         yield f"a report of a turn: {report!r}", None, database.turn_of(report)
     for seen in WRONG_SEEN:
         yield f"a turn that the server saw as {seen}", 1, len(list(database.faults_of(turn, *seen)))
-    rates = {database.JAVA: 969, database.DBCP: 1_000, database.HIKARI: 999, database.C: 970, database.LIST: 1_000, database.CRATE: 1}
-    looked = list(database.looked_at(4, {column: (rate, 1) for column, rate in rates.items()}))
-    yield "ratios that are too small", [f"short: 4 workers: {JAVA} / {database.DBCP} is 0.969, target 0.97", ""], looked
+    rates = {database.JAVA: 949, database.DBCP: 1_000, database.HIKARI: 999, database.C: 951, database.LIST: 1_000, database.CRATE: 1}
+    looked = list(database.looked_at(4, {column: database.Rate(rate, rate / 141) for column, rate in rates.items()}))
+    yield "ratios that are too small", [f"short: 4 workers: {JAVA} / {database.DBCP} is 0.949 ± 0.010, target 0.97", ""], looked
+    yield "a mean", (database.Rate(6, 2), database.Rate(5, 0)), (database.mean_of([4, 4, 10]), database.mean_of([5]))
 
 
 def players():
@@ -310,7 +311,7 @@ def transfers():
     done = database_run()
     (head, *rows), *ratios = tables(done) or [[[]]]
     yield "the columns of bench/database", columns, head[1:] or done
-    yield "its rows", (DATABASE_ROWS, True), ([row[0] for row in rows], is_of(r"[\d,]+ \([\d,]+\.\d\)", [head, *rows]))
+    yield "its rows", (DATABASE_ROWS, True), ([row[0] for row in rows], is_of(r"[\d,]+ ± [\d,]+ \([\d,]+\.\d\)", [head, *rows]))
     ours = [our for our, others in database.PEERS.items() if our in columns and not set(others).isdisjoint(columns)]
     yield "its ratios", [ours] * bool(ours), [table[0][1:] for table in ratios]
     short = short_rows(done)
