@@ -1,6 +1,10 @@
-//! Tests of the core and of the engines.
+//! Tests of the core, of the parts below it, of the calls and of the engines.
 #![tactic(auto)]
 
+#[cfg(test)]
+mod calls;
+#[cfg(test)]
+mod checks;
 #[cfg(test)]
 mod cutting;
 #[cfg(test)]
@@ -10,14 +14,22 @@ mod full;
 #[cfg(test)]
 mod going_on;
 #[cfg(test)]
+mod journal;
+#[cfg(test)]
 mod lives;
 #[cfg(test)]
 mod openings;
+#[cfg(test)]
+mod places;
 #[cfg(test)]
 mod playing;
 #[cfg(test)]
 mod reconfiguring;
 #[cfg(test)]
+mod settings;
+#[cfg(test)]
 mod statistics;
 #[cfg(test)]
 mod stepping;
+#[cfg(test)]
+mod waiters;

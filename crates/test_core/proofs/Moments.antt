@@ -2,7 +2,7 @@
 use Rattle.std.proofs.Common.{◌≡◌, ℕ, ◌+◌, ◌<◌, ◌==◌, Bool, true, false, not, cond, if◌then◌else◌, List, [], ◌∷◌, arith}
 use Rattle.pool_journal.specs.declared.record.Record.{Record}
 use Rattle.pool_places.specs.Changes.{with_changed, without_id}
-use Rattle.test_parts.specs.Before.{AllBefore}
+use Rattle.test_core.specs.Before.{AllBefore}
 
 pub before_later : (n : ℕ) (rs : List Record) → AllBefore n rs → AllBefore (n + 1) rs
 before_later n [] all = tt

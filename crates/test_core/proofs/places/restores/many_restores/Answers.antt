@@ -3,8 +3,8 @@ use Rattle.pool_journal.specs.declared.record.Record.{Record}
 use Rattle.pool_places.specs.Changes.{IdsBelow}
 use Rattle.pool_places.specs.PlacesModel.{records_in}
 use Rattle.pool_places.proofs.Entries.{all_mapped}
-use Rattle.test_parts.proofs.places.restores.many_restores.Goals.{then-is_free, else-is_free}
-use Rattle.test_parts.proofs.places.restores.many_restores.Goals as goal
+use Rattle.test_core.proofs.places.restores.many_restores.Goals.{then-is_free, else-is_free}
+use Rattle.test_core.proofs.places.restores.many_restores.Goals as goal
 
 below_later : (n : ℕ) (rs : List Record) → IdsBelow n rs → IdsBelow (n + 1) rs
 below_later n rs below = all_mapped (λ r. r.id < n) (λ r. r.id < n + 1) rs (λ r under. omega (arith, under)) below

@@ -1,4 +1,4 @@
-use Rattle.test_parts.proofs.places.lives.restore.Goals as goal
+use Rattle.test_core.proofs.places.lives.restore.Goals as goal
 
 pub restore-requires-clause-position : goal.restore-requires-clause-position
 restore-requires-clause-position c queued = c.requires.position queued

@@ -3,7 +3,7 @@ ghost use Rattle.std.specs.Prelude.{◌≡◌, ◌+◌, ◌<◌, ◌≤◌, Some
 ghost use Rattle.pool_journal.specs.Queue.{record_in};
 ghost use Rattle.pool_places.specs.Changes.{opens_as};
 ghost use Rattle.pool_places.specs.PlacesModel.{records_in};
-ghost use Rattle.test_parts.specs.Before.{AllBefore};
+ghost use Rattle.test_core.specs.Before.{AllBefore};
 
 use crate::checks::expect_equal;
 use pool_journal::{Phase, Record};

@@ -2,9 +2,9 @@ use Rattle.std.proofs.Common.{◌+◌, refl, sym, arith, subst}
 use Rattle.pool_journal.specs.declared.record.Phase.TheVariants as phases
 use Rattle.pool_places.specs.Changes.{phase_set, lent_at, used_at, parked_at}
 use Rattle.pool_places.specs.PlacesModel.{records_in}
-use Rattle.test_parts.specs.Before.{AllBefore}
-use Rattle.test_parts.proofs.Moments.{before_changed, before_without, before_later}
-use Rattle.test_parts.proofs.places.calls.move_on.Goals as goal
+use Rattle.test_core.specs.Before.{AllBefore}
+use Rattle.test_core.proofs.Moments.{before_changed, before_without, before_later}
+use Rattle.test_core.proofs.places.calls.move_on.Goals as goal
 
 pub returns-in-Readying : goal.returns-in-Readying
 returns-in-Readying c = subst (AllBefore (c.args.moment + 1)) (sym c.set_phase.ensures.records) (before_changed c.args.moment c.args.id (phase_set phases.Destroying) (records_in c.args.places.now.objects) (λ r. refl) (λ r under. omega (arith, under)) c.requires.before)

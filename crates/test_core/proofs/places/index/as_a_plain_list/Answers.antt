@@ -1,5 +1,5 @@
 use Rattle.std.proofs.Common.{◌+◌}
-use Rattle.test_parts.proofs.places.index.as_a_plain_list.Goals as goal
+use Rattle.test_core.proofs.places.index.as_a_plain_list.Goals as goal
 
 pub loop-id-preserved : goal.loop-id-preserved
 loop-id-preserved g c =
