@@ -141,7 +141,7 @@ impl<M: Manager> Course<M> {
     }
 
     /// Goes on after a report.
-    pub fn advance(&mut self, pool: &Shared<M>, report: Report, waker: Option<Waker>) {
+    pub fn advance(&mut self, pool: &Shared<M>, report: Report, waker: &mut Option<Waker>) {
         self.at = pool.now();
         self.advance_in(pool, pool.lock(), report, waker);
     }
@@ -152,7 +152,7 @@ impl<M: Manager> Course<M> {
         pool: &Shared<M>,
         mut state: Held<'_, M>,
         report: Report,
-        waker: Option<Waker>,
+        waker: &mut Option<Waker>,
     ) {
         let alarm = self.tell(&mut state, report);
         self.settle(pool, state, waker);
@@ -161,12 +161,12 @@ impl<M: Manager> Course<M> {
         }
     }
 
-    /// Does under the lock what the call does next, as far as that can be done there, and frees the lock.
-    pub fn settle(&mut self, pool: &Shared<M>, mut state: Held<'_, M>, mut waker: Option<Waker>) {
+    /// Does under the lock what the call does next, as far as that can be done there, and frees the lock. If it is to sleep then, the waker is taken.
+    pub fn settle(&mut self, pool: &Shared<M>, mut state: Held<'_, M>, waker: &mut Option<Waker>) {
         let mut wakes = Wakes::default();
         loop {
             wakes.push(self.call.wake());
-            if self.take_up(&mut state, &mut waker) {
+            if self.take_up(&mut state, waker) {
                 break;
             }
         }
@@ -174,9 +174,6 @@ impl<M: Manager> Course<M> {
         match self.call.action() {
             Action::Done(End::Lent) => pool.leave_with_loan(state, wakes),
             _ => pool.leave(state, wakes),
-        }
-        if let Some(waker) = waker {
-            drop_quietly(waker);
         }
     }
 

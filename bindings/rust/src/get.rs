@@ -2,11 +2,13 @@
 
 use crate::call::{Action, Kind};
 use crate::callers::caller_number;
+use crate::clock::Moment;
 use crate::course::Course;
 use crate::error::Error;
 use crate::handle::Handle;
 use crate::in_progress::InProgress;
 use crate::manager::Manager;
+use crate::panics::drop_quietly;
 use crate::pooled::Pooled;
 use crate::shared::{Shared, WaitLimit};
 use crate::work::Worked;
@@ -14,7 +16,7 @@ use std::fmt;
 use std::future::Future;
 use std::mem;
 use std::pin::Pin;
-use std::task::{Context, Poll};
+use std::task::{Context, Poll, Waker};
 
 /// A borrow by a task: the future that [`Pool::get_async`](crate::Pool::get_async) returns.
 ///
@@ -48,6 +50,15 @@ enum Progress<M: Manager> {
 /// The work of a manager that is awaited, and the call that asks for it.
 type Work<M> = Pin<Box<dyn Future<Output = (Course<M>, Worked<M>)> + Send>>;
 
+/// The waker of the task that polls, unless the pool has taken it. Its drop may panic, and here that ends.
+struct PollWaker(Option<Waker>);
+
+impl Drop for PollWaker {
+    fn drop(&mut self) {
+        drop_quietly(self.0.take());
+    }
+}
+
 /// A call in a poll.
 type Polled<'a, M> = InProgress<M, &'a Shared<M>>;
 
@@ -66,31 +77,39 @@ impl<M: Manager> Get<M> {
 impl<M: Manager + 'static> Get<M> {
     fn advance(&mut self, context: &mut Context<'_>) -> Lent<M> {
         let Get { progress, pool } = self;
-        let call = match mem::replace(progress, Progress::Ended) {
-            Progress::New => match begin(pool, context) {
+        let mut begun = None;
+        if let Progress::New = progress {
+            // It has ended if the manager panics.
+            *progress = Progress::Ended;
+            let (caller, at) = match lend_at_once(pool) {
                 Ok(lent) => return Poll::Ready(Ok(lent)),
-                Err(call) => call,
-            },
-            Progress::Waits(course) => {
+                Err(came) => came,
+            };
+            *progress = Progress::New;
+            begun = Some(Course::new(Kind::Borrow, caller, at, WaitLimit::AsSet));
+        }
+        // Code of others, so without the lock. If it panics, nothing has changed.
+        let mut waker = PollWaker(Some(context.waker().clone()));
+        let waker = &mut waker.0;
+        let call = match (mem::replace(progress, Progress::Ended), begun) {
+            (_, Some(course)) => InProgress::begin(&**pool, pool.lock(), course, waker),
+            (Progress::Waits(course), _) => {
                 let mut call = InProgress::resume(&**pool, course);
-                call.look(context.waker().clone());
+                call.look(waker);
                 call
             }
-            Progress::Works(work) => match poll_work(pool, work, progress, context) {
+            (Progress::Works(work), _) => match poll_work(pool, work, progress, context, waker) {
                 Poll::Ready(call) => call?,
                 Poll::Pending => return Poll::Pending,
             },
-            Progress::Ended => panic!("a borrow is polled after it has ended"),
+            _ => panic!("a borrow is polled after it has ended"),
         };
-        go_on(pool, call, progress, context)
+        go_on(pool, call, progress, context, waker)
     }
 }
 
-/// Begins a borrow. Returns its object, if that is lent at once.
-fn begin<'a, M: Manager>(
-    pool: &'a Handle<M>,
-    context: &Context<'_>,
-) -> Result<Pooled<M>, Polled<'a, M>> {
+/// Returns an object that is lent at once, or else the number of the caller and the time.
+fn lend_at_once<M: Manager>(pool: &Handle<M>) -> Result<Pooled<M>, (u32, Moment)> {
     let (caller, at) = (caller_number(), pool.now());
     let state = match pool.lend_at_once(caller, at) {
         Ok(loan) => return Ok(Pooled::new(pool.clone(), loan)),
@@ -101,10 +120,7 @@ fn begin<'a, M: Manager>(
     } else if let Ok(loan) = pool.lend_ready(state, caller, at) {
         return Ok(Pooled::new(pool.clone(), loan));
     }
-    let course = Course::new(Kind::Borrow, caller, at, WaitLimit::AsSet);
-    // Code of others, so without the lock.
-    let waker = Some(context.waker().clone());
-    Err(InProgress::begin(&**pool, pool.lock(), course, waker))
+    Err((caller, at))
 }
 
 /// Goes on with a borrow until it is over, or the task has to wait.
@@ -113,6 +129,7 @@ fn go_on<'a, M: Manager + 'static>(
     mut call: Polled<'a, M>,
     progress: &mut Progress<M>,
     context: &mut Context<'_>,
+    waker: &mut Option<Waker>,
 ) -> Lent<M> {
     loop {
         match call.action() {
@@ -127,12 +144,12 @@ fn go_on<'a, M: Manager + 'static>(
             _ if call.is_awaited() => {
                 // It owns the object once it is polled, which is at once.
                 let own = InProgress::resume(pool.clone(), call.suspend());
-                match poll_work(pool, Box::pin(own.work()), progress, context) {
+                match poll_work(pool, Box::pin(own.work()), progress, context, waker) {
                     Poll::Ready(went_on) => call = went_on?,
                     Poll::Pending => return Poll::Pending,
                 }
             }
-            _ => call.act(context.waker().clone())?,
+            _ => call.act(waker)?,
         }
     }
 }
@@ -143,6 +160,7 @@ fn poll_work<'a, M: Manager + 'static>(
     mut work: Work<M>,
     progress: &mut Progress<M>,
     context: &mut Context<'_>,
+    waker: &mut Option<Waker>,
 ) -> Poll<Result<Polled<'a, M>, Error<M::Error>>> {
     match work.as_mut().poll(context) {
         Poll::Pending => {
@@ -151,7 +169,7 @@ fn poll_work<'a, M: Manager + 'static>(
         }
         Poll::Ready((course, worked)) => {
             let mut call = InProgress::resume(&**pool, course);
-            let went_on = call.go_on(worked, context.waker().clone());
+            let went_on = call.go_on(worked, waker);
             Poll::Ready(went_on.map(|()| call))
         }
     }
@@ -165,7 +183,7 @@ impl<M: Manager + 'static> Future for Get<M> {
 
     /// # Panics
     ///
-    /// It was polled after it had ended, also by a panic of the manager.
+    /// It was polled after it had ended, also by a panic of the manager. Or the clone of the waker panics: then it may be polled again.
     fn poll(self: Pin<&mut Self>, context: &mut Context<'_>) -> Poll<Self::Output> {
         self.get_mut().advance(context)
     }

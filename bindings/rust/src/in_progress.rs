@@ -26,7 +26,7 @@ impl<M: Manager, P: Deref<Target = Shared<M>>> InProgress<M, P> {
         pool: P,
         mut state: Held<'_, M>,
         mut course: Course<M>,
-        waker: Option<Waker>,
+        waker: &mut Option<Waker>,
     ) -> InProgress<M, P> {
         course.start(&mut state);
         InProgress::begun(pool, state, course, waker)
@@ -37,7 +37,7 @@ impl<M: Manager, P: Deref<Target = Shared<M>>> InProgress<M, P> {
         pool: P,
         state: Held<'_, M>,
         course: Course<M>,
-        waker: Option<Waker>,
+        waker: &mut Option<Waker>,
     ) -> InProgress<M, P> {
         let mut call = InProgress { pool, course };
         call.course.settle(&call.pool, state, waker);
@@ -79,18 +79,18 @@ impl<M: Manager, P: Deref<Target = Shared<M>>> InProgress<M, P> {
             match self.action() {
                 Action::Done(end) => return Ok(end),
                 Action::Sleep => self.course.sleep(&self.pool),
-                _ => self.course.act(&self.pool, None)?,
+                _ => self.course.act(&self.pool, &mut None)?,
             }
         }
     }
 
     /// Does the next action of a call that is not to sleep, and goes on. If it is to sleep then, it has the waker.
-    pub fn act(&mut self, waker: Waker) -> Result<(), Error<M::Error>> {
-        self.course.act(&self.pool, Some(waker))
+    pub fn act(&mut self, waker: &mut Option<Waker>) -> Result<(), Error<M::Error>> {
+        self.course.act(&self.pool, waker)
     }
 
     /// Goes on with a call that sleeps, if it was woken or its wait is over.
-    pub fn look(&mut self, waker: Waker) {
+    pub fn look(&mut self, waker: &mut Option<Waker>) {
         self.course.look(&self.pool, waker);
     }
 
@@ -107,8 +107,12 @@ impl<M: Manager, P: Deref<Target = Shared<M>>> InProgress<M, P> {
     }
 
     /// Goes on after work of the manager.
-    pub fn go_on(&mut self, worked: Worked<M>, waker: Waker) -> Result<(), Error<M::Error>> {
-        self.course.go_on(&self.pool, worked, Some(waker))
+    pub fn go_on(
+        &mut self,
+        worked: Worked<M>,
+        waker: &mut Option<Waker>,
+    ) -> Result<(), Error<M::Error>> {
+        self.course.go_on(&self.pool, worked, waker)
     }
 
     /// Returns the object that the call has: one that it lends, or one whose loan it could not end.

@@ -49,7 +49,7 @@ impl<M: Manager> Shared<M> {
     fn begin(&self, kind: Kind) -> InProgress<M, &Shared<M>> {
         let (caller, at) = (caller_number(), self.now());
         let course = Course::new(kind, caller, at, WaitLimit::AsSet);
-        InProgress::begin(self, self.lock(), course, None)
+        InProgress::begin(self, self.lock(), course, &mut None)
     }
 
     /// Makes an object and parks it, if a place is free.

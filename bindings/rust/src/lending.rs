@@ -89,7 +89,7 @@ impl<M: Manager> Shared<M> {
             self.leave_with_loan(state, course.wakes());
             return Ok(loan);
         }
-        let mut call = InProgress::begun(self, state, course, None);
+        let mut call = InProgress::begun(self, state, course, &mut None);
         let end = call.drive()?;
         call.take_lent(end)
     }
@@ -128,7 +128,7 @@ impl<M: Manager> Shared<M> {
 
     /// Ends a loan by a call.
     fn end_loan(&self, state: Held<'_, M>, course: Course<M>) -> Returned {
-        let mut call = InProgress::begin(self, state, course, None);
+        let mut call = InProgress::begin(self, state, course, &mut None);
         match call.drive() {
             Ok(End::Parked) => Returned::Parked,
             Ok(End::Destroyed) => Returned::Destroyed,
@@ -153,13 +153,13 @@ impl<M: Manager> Shared<M> {
         let (caller, at) = (caller_number(), self.now());
         let course = Course::of_detachment(caller, at, loan, lent);
         // It fails for room or memory only if the object is not lent any more.
-        let _ = InProgress::begin(self, self.lock(), course, None).drive();
+        let _ = InProgress::begin(self, self.lock(), course, &mut None).drive();
     }
 
     /// Notes that an object is used.
     pub fn touch(&self, id: u64) -> Result<Touched, Error<M::Error>> {
         let course = Course::of_use(caller_number(), self.now(), id);
-        let mut call = InProgress::begin(self, self.lock(), course, None);
+        let mut call = InProgress::begin(self, self.lock(), course, &mut None);
         match call.drive()? {
             End::Noted => Ok(Touched::Noted),
             // One that is not lent was reclaimed, before a change to settings that reclaim none.

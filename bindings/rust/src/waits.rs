@@ -69,22 +69,24 @@ impl<M: Manager> Course<M> {
         let mut state = pool.sleep_until_woken(ticket, pauses, self.longest);
         self.at = pool.now_under_lock(&state);
         if !state.sleepers.has(ticket) || self.is_over(&state) {
-            self.advance_in(pool, state, Report::Woken, None);
+            self.advance_in(pool, state, Report::Woken, &mut None);
         } else if !self.fall_asleep(&mut state, &mut None) {
-            self.advance_in(pool, state, Report::GivenUp, None);
+            self.advance_in(pool, state, Report::GivenUp, &mut None);
         }
     }
 
     /// A task that sleeps was polled: it goes on if it was woken or its wait is over, and sleeps on with this waker otherwise.
-    pub fn look(&mut self, pool: &Shared<M>, waker: Waker) {
+    pub fn look(&mut self, pool: &Shared<M>, waker: &mut Option<Waker>) {
         self.at = pool.now();
         let mut state = pool.lock();
         let ticket = self.call.ticket();
         if !state.sleepers.has(ticket) || self.is_over(&state) {
-            return self.advance_in(pool, state, Report::Woken, Some(waker));
+            return self.advance_in(pool, state, Report::Woken, waker);
         }
-        let alarm = Alarm::Task(waker, self.call.name());
-        let before = state.sleepers.sleep(ticket, alarm);
+        let alarm = waker
+            .take()
+            .map(|waker| Alarm::Task(waker, self.call.name()));
+        let before = alarm.map(|alarm| state.sleepers.sleep(ticket, alarm));
         drop(state);
         drop_quietly(before);
     }

@@ -168,7 +168,7 @@ impl<M: Manager> Course<M> {
         &mut self,
         pool: &Shared<M>,
         worked: Worked<M>,
-        waker: Option<Waker>,
+        waker: &mut Option<Waker>,
     ) -> Result<(), Error<M::Error>> {
         let fault = match worked {
             Ok(report) => {
@@ -178,7 +178,7 @@ impl<M: Manager> Course<M> {
             Err(fault) => fault,
         };
         let id = self.call.number();
-        self.advance(pool, Report::Failed, None);
+        self.advance(pool, Report::Failed, &mut None);
         if let Action::Destroy = self.call.action() {
             self.destroy(pool);
             self.advance(pool, Report::Succeeded, waker);
@@ -195,7 +195,11 @@ impl<M: Manager> Course<M> {
     }
 
     /// Does the next action of a call that is not to sleep, and goes on.
-    pub fn act(&mut self, pool: &Shared<M>, waker: Option<Waker>) -> Result<(), Error<M::Error>> {
+    pub fn act(
+        &mut self,
+        pool: &Shared<M>,
+        waker: &mut Option<Waker>,
+    ) -> Result<(), Error<M::Error>> {
         let report = match self.call.action() {
             Action::GoOn => Report::GoOn,
             Action::MakeRoom => self.make_room(pool),
@@ -213,7 +217,7 @@ impl<M: Manager> Course<M> {
         self.limit = WaitLimit::None;
         let (mut report, mut panicked) = (Report::GivenUp, None);
         loop {
-            self.advance(pool, report, None);
+            self.advance(pool, report, &mut None);
             report = match self.call.action() {
                 Action::Done(_) => return panicked,
                 Action::GoOn => Report::GoOn,

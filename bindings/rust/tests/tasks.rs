@@ -3,7 +3,7 @@
 mod common;
 
 use common::managers::{kept, Broken, Clock};
-use common::tasks::{block_on, poll, poll_with, ready, run_all, yield_now, Bell, LONGEST};
+use common::tasks::{block_on, poll, poll_with, ready, run_all, unique, yield_now, Bell, LONGEST};
 use common::{assert_legal, journal_of, panics, steps_of, wait_for_waits, while_waiting};
 use std::future::{poll_fn, Future};
 use std::pin::Pin;
@@ -937,6 +937,48 @@ fn a_manager_that_is_not_awaited_is_called_in_the_poll() {
     assert_eq!(error(poll(&mut first, &bell)), Error::Make(Broken("make")));
     assert_eq!(bell.rings(), 1);
     assert_eq!(lent(&mut second, &bell).id, 2);
+    assert_legal(&pool);
+}
+
+#[test]
+fn a_waker_whose_clone_panics_costs_nothing() {
+    for (is_new, calls) in [(true, &OF_NEW[..]), (false, &OF_IDLE[..])] {
+        for place in 0..calls.len() {
+            let mut borrow = Borrow::new(is_new);
+            borrow.advance_to(calls, place, Event::Waits);
+            assert!(panics(|| poll_with(&mut borrow.get, &unique())));
+            assert!(poll(&mut borrow.get, &Bell::new()).is_pending());
+            borrow.maker.let_go();
+            assert!(panics(|| poll_with(&mut borrow.get, &unique())));
+            let object = lent(&mut borrow.get, &borrow.bell);
+            assert_eq!(object.id, borrow.id);
+            assert_eq!(borrow.bell.rings(), 0);
+            drop(object);
+            assert_eq!(borrow.bell.rings(), 1);
+            drop(lent(&mut borrow.next, &borrow.bell));
+            assert!(borrow.maker.dropped().is_empty());
+            assert_legal(&borrow.pool);
+        }
+    }
+}
+
+#[test]
+fn a_waker_whose_clone_panics_costs_nothing_in_a_poll_that_calls_the_manager() {
+    let maker = Maker::default();
+    let (pool, [mut first, mut second], bell) = plain_borrow(&maker);
+    assert!(panics(|| poll_with(&mut first, &unique())));
+    let object = lent(&mut first, &bell);
+    assert_eq!(object.id, 1);
+    let mut third = pool.get_async();
+    assert!(panics(|| poll_with(&mut third, &unique())));
+    assert!(poll(&mut third, &bell).is_pending());
+    drop(object);
+    assert_eq!(bell.rings(), 1);
+    assert!(panics(|| poll_with(&mut second, &unique())));
+    drop(second);
+    assert_eq!(bell.rings(), 1);
+    drop(lent(&mut third, &bell));
+    assert_eq!(pool.counts().idle, 1);
     assert_legal(&pool);
 }
 
