@@ -1,5 +1,6 @@
 //! The ages of objects that have a lifetime. The calls of the core know of none, so the pool takes steps of the core by itself.
 
+use crate::call::Kind;
 use crate::callers::caller_number;
 use crate::clock::Moment;
 use crate::error::Error;
@@ -7,7 +8,7 @@ use crate::keeping::Eviction;
 use crate::lending::Returned;
 use crate::locked_pool::LockedPool;
 use crate::manager::Manager;
-use crate::shared::{Held, Item, Shared, WaitLimit};
+use crate::shared::{Held, Item, Shared};
 use crate::sleepers::Wakes;
 use crate::step::{Answer, Input, Outcome, StepFault};
 use crate::values::Loan;
@@ -130,10 +131,18 @@ impl<M: Manager> Shared<M> {
     fn examine_age(&self, caller: u32) -> Result<Option<Examined<M>>, Error<M::Error>> {
         loop {
             match self.try_to_examine_age(caller) {
-                Err(StepFault::JournalFull) if self.make_room(WaitLimit::AsSet) => {}
+                Err(StepFault::JournalFull) if self.make_room_to_examine() => {}
                 examined => return examined.map_err(Error::from),
             }
         }
+    }
+
+    /// Makes room in a full journal. Returns whether that is done.
+    #[cold]
+    fn make_room_to_examine(&self) -> bool {
+        let state = self.lock();
+        let end = state.end_of_wait();
+        self.make_room(state, Kind::Evict, end)
     }
 
     fn try_to_examine_age(&self, caller: u32) -> Result<Option<Examined<M>>, StepFault> {

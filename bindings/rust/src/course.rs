@@ -6,6 +6,7 @@ use crate::locked_pool::LockedPool;
 use crate::manager::Manager;
 use crate::panics::drop_quietly;
 use crate::proved_core::{Call, Event, Start};
+use crate::room_waits::RoomWait;
 use crate::shared::{Held, Item, Shared, WaitLimit};
 use crate::sleepers::{Alarm, Wakes};
 use crate::values::Loan;
@@ -43,6 +44,8 @@ pub(crate) struct Course<M: Manager> {
     pub lacks_memory: bool,
     /// Whether it was begun again, after entries were dropped for the sake of memory.
     pub is_begun_again: bool,
+    /// For a task that waits for room in the journal.
+    pub room_wait: Option<RoomWait>,
     /// For a thread that is to sleep: how long at most, and for how many threads it waits at most.
     pub longest: Option<Duration>,
     pub threads: usize,
@@ -66,6 +69,7 @@ impl<M: Manager> Course<M> {
             tests_idle: false,
             lacks_memory: false,
             is_begun_again: false,
+            room_wait: None,
             longest: None,
             threads: 0,
         }
@@ -118,11 +122,11 @@ impl<M: Manager> Course<M> {
         state.core.begin(start, &mut self.call);
     }
 
-    /// Tells the core what became of the last action. Returns the alarm of a call that slept.
+    /// Tells the core what became of the last action. Returns the alarm of a call that slept, or of a task that waited for room.
     pub fn tell(&mut self, state: &mut LockedPool<M::Object>, report: Report) -> Option<Alarm> {
         let alarm = match self.call.action() {
             Action::Sleep => state.sleepers.go_on(self.call.ticket()),
-            _ => None,
+            _ => self.leave_room_wait(state),
         };
         let event = Event {
             report,

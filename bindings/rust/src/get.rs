@@ -40,7 +40,7 @@ pub struct Get<M: Manager> {
 /// How far a borrow is between two polls.
 enum Progress<M: Manager> {
     New,
-    /// It sleeps, or was woken.
+    /// It sleeps, or waits for room in the journal, or was woken.
     Waits(Course<M>),
     /// The manager is awaited.
     Works(Work<M>),
@@ -95,7 +95,9 @@ impl<M: Manager + 'static> Get<M> {
             (_, Some(course)) => InProgress::begin(&**pool, pool.lock(), course, waker),
             (Progress::Waits(course), _) => {
                 let mut call = InProgress::resume(&**pool, course);
-                call.look(waker);
+                if let Action::Sleep = call.action() {
+                    call.look(waker);
+                }
                 call
             }
             (Progress::Works(work), _) => match poll_work(pool, work, progress, context, waker) {
@@ -137,7 +139,8 @@ fn go_on<'a, M: Manager + 'static>(
                 let lent = call.take_lent(end);
                 return Poll::Ready(lent.map(|loan| Pooled::new(pool.clone(), loan)));
             }
-            Action::Sleep => {
+            // The pool has its waker.
+            Action::Sleep | Action::MakeRoom if waker.is_none() => {
                 *progress = Progress::Waits(call.suspend());
                 return Poll::Pending;
             }

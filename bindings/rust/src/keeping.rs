@@ -131,6 +131,7 @@ impl<M: Manager> Shared<M> {
             maintainer.stop();
         }
         let mut call = self.begin(Kind::Close);
+        self.wake_for_room(self.lock());
         // The first close never fails. A later one has nothing to do.
         let _ = drive_though_destruction_panics(&mut call);
         call.count()

@@ -93,6 +93,7 @@ mod pooled;
 mod proved_core;
 mod reconfiguring;
 mod reports;
+mod room_waits;
 mod segments;
 mod settings;
 mod shared;

@@ -8,6 +8,12 @@ use crate::sleepers::Sleepers;
 use crate::step::StepFault;
 use crate::stored_journal::{Mode, StoredJournal};
 use crate::values::{Loan, Values};
+use std::time::{Duration, Instant};
+
+/// Returns the time some milliseconds from now, unless it is too far away.
+pub(crate) fn after(millis: u64) -> Option<Instant> {
+    Instant::now().checked_add(Duration::from_millis(millis))
+}
 
 /// The core, with the values of its idle objects, and with those that it has told to sleep.
 pub(crate) struct LockedPool<T> {
@@ -157,6 +163,12 @@ impl<T> LockedPool<T> {
     fn plan_segment(&mut self) {
         let room = self.core.room();
         self.journal.cut(room);
+    }
+
+    /// Returns until when a call that begins to wait now does so, by the settings.
+    pub fn end_of_wait(&self) -> Option<Instant> {
+        let most = u64::try_from(self.setup.settings.max_wait_millis);
+        most.ok().and_then(after)
     }
 
     /// Returns whether the journal has room for any call.

@@ -122,12 +122,12 @@ impl<M: Manager> Pool<M> {
     /// A poll looks once, in one critical section. If there is nothing to lend, it registers the task's waker there. If it finds nothing again,
     /// it makes no entry. It awaits an [`AsyncManager`](crate::AsyncManager), and calls any other manager itself.
     ///
-    /// With [`Journal::Segments`](crate::Journal::Segments) a poll may store a segment. If the journal is full, the poll blocks its thread until
-    /// the thread that stores a segment is done, up to `maxWaitMillis`. A return may store a segment too. Set a limit with enough room for
-    /// the time that your sink takes, so that this does not happen.
+    /// With [`Journal::Segments`](crate::Journal::Segments) a poll may store a segment, and so may a return. If the journal is full while another
+    /// thread stores one, the task waits until there is room, as it waits for an object. Set a limit with enough room for the time that your sink
+    /// takes, so that this does not happen.
     ///
-    /// The future has no timer. `maxWaitMillis` ends a wait at the first poll after that time. Only an object, a place, or the close of the pool
-    /// wakes the task. Let your runtime bound the wait, as `tokio::time::timeout` does: you may drop the future at any time.
+    /// The future has no timer. `maxWaitMillis` ends a wait at the first poll after that time. Only an object, a place, room in the journal, or the
+    /// close of the pool wakes the task. Let your runtime bound the wait, as `tokio::time::timeout` does: you may drop the future at any time.
     ///
     /// # Errors
     ///

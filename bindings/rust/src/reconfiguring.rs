@@ -46,7 +46,7 @@ impl<M: Manager> Shared<M> {
     /// sink, or else is unwritten until the next cut.
     fn cut_and_change(&self, change: Setup) -> Result<u64, ReconfigureError> {
         let state = self.lock();
-        let turn = self.take_turn(state, None);
+        let turn = self.take_turn(state);
         let mut turn = turn.ok_or(ReconfigureError::FromWriter)?;
         if let Some(outlet) = &self.outlet {
             let stored = self.hand_over(&mut turn, outlet);

@@ -134,6 +134,7 @@ impl<M: Manager> Shared<M> {
         let state = self.state.get_mut();
         mem::forget(state.values.take_all());
         mem::forget(state.sleepers.take_all());
+        mem::forget(state.journal.room_wakers.take_all());
         mem::forget(self.outlet.take());
         mem::forget(Arc::clone(&self.manager));
         mem::forget(mem::replace(&mut self.clock, Clock::Since(Instant::now())));

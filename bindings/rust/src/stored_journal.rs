@@ -1,5 +1,6 @@
 //! The state of a pool's journal that the pool's lock protects, beside the entries themselves, which the core has.
 
+use crate::room_waits::RoomWakers;
 use std::sync::Arc;
 use std::thread::{self, ThreadId};
 
@@ -38,6 +39,8 @@ pub(crate) struct StoredJournal {
     pub unwritten: Option<CutSegment>,
     /// The thread that cuts the journal, and writes what it cuts off. Meanwhile no other may cut.
     pub writer: Option<ThreadId>,
+    /// The tasks that wait until the journal is cut, or that thread is done.
+    pub room_wakers: RoomWakers,
     /// The thread that drains the journal.
     pub drainer: Option<ThreadId>,
 }
@@ -52,6 +55,7 @@ impl StoredJournal {
             drained: 0,
             unwritten: None,
             writer: None,
+            room_wakers: RoomWakers::default(),
             drainer: None,
         };
         journal.plan(0, room);

@@ -2,12 +2,14 @@
 
 use crate::call::Report;
 use crate::course::Course;
-use crate::locked_pool::LockedPool;
+use crate::locked_pool::{after, LockedPool};
 use crate::manager::Manager;
 use crate::panics::drop_quietly;
 use crate::pauses::Pauses;
-use crate::shared::{Shared, WaitLimit};
+use crate::room_waits::RoomWait;
+use crate::shared::{Held, Shared, WaitLimit};
 use crate::sleepers::Alarm;
+use crate::writing::Room;
 use std::task::Waker;
 use std::thread;
 use std::time::{Duration, Instant};
@@ -91,12 +93,87 @@ impl<M: Manager> Course<M> {
         drop_quietly(before);
     }
 
-    /// Makes room in a full journal, unless the pool refuses the call whatever room there is. Returns the report.
+    /// Makes room in a full journal. If another thread writes a segment, a thread waits for that, and a task has its waker taken. Returns the
+    /// report, unless it is a task that waits.
     #[cold]
-    pub fn make_room(&self, pool: &Shared<M>) -> Report {
-        match !pool.refuses(self.kind) && pool.make_room(self.limit) {
-            true => Report::RoomMade,
-            false => Report::NoRoom,
+    pub fn make_room(&mut self, pool: &Shared<M>, waker: &mut Option<Waker>) -> Option<Report> {
+        let is_made = match waker {
+            Some(_) => return self.look_for_room(pool, waker),
+            None => {
+                let state = pool.lock();
+                let end = self.end_of_wait(&state);
+                pool.make_room(state, self.kind, end)
+            }
+        };
+        Some(report_of(is_made))
+    }
+
+    /// Returns until when a thread waits for another one that writes a segment: as long as for an object.
+    fn end_of_wait(&self, state: &LockedPool<M::Object>) -> Option<Instant> {
+        let now = self.at.millis.max(state.last_time());
+        let set = match self.call.until() {
+            Some(until) => after(until.saturating_sub(now)),
+            None => state.end_of_wait(),
+        };
+        match self.limit {
+            WaitLimit::None => Some(Instant::now()),
+            WaitLimit::Until(end) => set.into_iter().chain([end]).min(),
+            WaitLimit::AsSet => set,
         }
+    }
+
+    /// Makes room for a task, which does not wait on its thread.
+    fn look_for_room(&mut self, pool: &Shared<M>, waker: &mut Option<Waker>) -> Option<Report> {
+        self.at = pool.now();
+        let mut state = pool.lock();
+        let waited = self.room_wait.map(|wait| wait.first);
+        let first = waited.unwrap_or_else(|| state.first_stored());
+        match pool.look_for_room(&mut state, self.kind, first) {
+            Room::Made => Some(Report::RoomMade),
+            Room::Lacks => Some(report_of(pool.write_for_room(state, first))),
+            Room::Awaited if !self.is_over(&state) => self.await_room(state, first, waker),
+            Room::Awaited | Room::Refused => Some(Report::NoRoom),
+        }
+    }
+
+    /// Waits until the journal is cut, or the thread that writes is done. Returns a report if there is no memory for that.
+    fn await_room(
+        &mut self,
+        mut state: Held<'_, M>,
+        first: u64,
+        waker: &mut Option<Waker>,
+    ) -> Option<Report> {
+        let before = self.leave_room_wait(&mut state);
+        let kept = waker
+            .take()
+            .map(|waker| state.journal.room_wakers.keep(waker));
+        drop(state);
+        drop_quietly(before);
+        match kept? {
+            Ok(number) => {
+                self.room_wait = Some(RoomWait { first, number });
+                None
+            }
+            Err(refused) => {
+                *waker = Some(refused);
+                self.lacks_memory = true;
+                Some(Report::GivenUp)
+            }
+        }
+    }
+
+    /// A task waits for room no longer. Returns its alarm, if it was not called.
+    pub fn leave_room_wait(&mut self, state: &mut LockedPool<M::Object>) -> Option<Alarm> {
+        let wait = self.room_wait.take()?;
+        let waker = state.journal.room_wakers.take(wait.number)?;
+        Some(Alarm::Task(waker, self.call.name()))
+    }
+}
+
+/// Returns the report of a call for which room was to be made.
+fn report_of(is_made: bool) -> Report {
+    match is_made {
+        true => Report::RoomMade,
+        false => Report::NoRoom,
     }
 }

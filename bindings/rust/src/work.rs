@@ -202,7 +202,10 @@ impl<M: Manager> Course<M> {
     ) -> Result<(), Error<M::Error>> {
         let report = match self.call.action() {
             Action::GoOn => Report::GoOn,
-            Action::MakeRoom => self.make_room(pool),
+            Action::MakeRoom => match self.make_room(pool, waker) {
+                Some(report) => report,
+                None => return Ok(()),
+            },
             _ => {
                 let worked = self.work(pool);
                 return self.go_on(pool, worked, waker);

@@ -1,14 +1,16 @@
 //! Cuts of the journal, and the segments that are handed to a sink.
 
+use crate::call::Kind;
 use crate::failure::Failure;
 use crate::journal::copy_lines;
 use crate::locked_pool::LockedPool;
 use crate::manager::Manager;
 use crate::panics::unless_it_panics;
 use crate::proved_core::Core;
+use crate::room_waits::wake_all;
 use crate::segments::{Segment, SegmentSink, Segments, SinkFailure};
 use crate::settings::Setup;
-use crate::shared::{Held, Shared, WaitLimit};
+use crate::shared::{Held, Shared};
 use crate::step::StepFault;
 use crate::stored_journal::{CutSegment, Mode};
 use std::io::{self, Write};
@@ -47,6 +49,18 @@ impl Outlet {
     }
 }
 
+/// What there is for a call that found the journal full.
+pub(crate) enum Room {
+    /// The journal was cut, or has room.
+    Made,
+    /// Nobody writes a segment, so the call is to do so.
+    Lacks,
+    /// Another thread writes a segment.
+    Awaited,
+    /// None: the pool is closed or has no sink, or this thread writes the segment.
+    Refused,
+}
+
 /// The right to cut the journal, of one thread at a time, and the segment that is unwritten. This goes back to the journal in the end.
 pub(crate) struct Turn<'a, M: Manager> {
     pool: &'a Shared<M>,
@@ -58,39 +72,27 @@ impl<M: Manager> Drop for Turn<'_, M> {
         let mut state = self.pool.lock();
         state.journal.writer = None;
         state.journal.unwritten = self.unwritten.take();
-        drop(state);
-        self.pool.written.notify_all();
+        self.pool.wake_for_room(state);
     }
 }
 
 impl<M: Manager> Shared<M> {
-    /// Waits until no other thread cuts the journal, or until there is enough, as far as the limit and the settings allow.
-    fn wait_for_turn<'a>(
-        &'a self,
-        mut state: Held<'a, M>,
-        limit: Option<Instant>,
-        is_enough: fn(&mut LockedPool<M::Object>) -> bool,
-    ) -> Option<Held<'a, M>> {
-        while state.journal.writer.is_some() && !is_enough(&mut state) {
+    /// Wakes those that wait for room in the journal, after it frees the lock.
+    pub fn wake_for_room(&self, mut state: Held<'_, M>) {
+        let wakers = state.journal.room_wakers.take_all();
+        drop(state);
+        self.written.notify_all();
+        wake_all(wakers);
+    }
+
+    /// Takes the turn to cut the journal, and waits for the thread that has it. Fails if that is this one.
+    pub fn take_turn<'a>(&'a self, mut state: Held<'a, M>) -> Option<Turn<'a, M>> {
+        while state.journal.writer.is_some() {
             if state.journal.is_written_by_this_thread() {
                 return None;
             }
-            let left = limit.map(|end| end.saturating_duration_since(Instant::now()));
-            if left == Some(Duration::ZERO) {
-                return None;
-            }
-            state = self.state.wait(state, &self.written, left);
+            state = self.state.wait(state, &self.written, None);
         }
-        Some(state)
-    }
-
-    /// Takes the turn to cut the journal, and waits for the thread that has it, as far as the limit and the settings allow.
-    pub fn take_turn<'a>(
-        &'a self,
-        state: Held<'a, M>,
-        limit: Option<Instant>,
-    ) -> Option<Turn<'a, M>> {
-        let mut state = self.wait_for_turn(state, limit, |_| false)?;
         state.journal.writer = Some(thread::current().id());
         Some(Turn {
             pool: self,
@@ -173,13 +175,14 @@ impl<M: Manager> Shared<M> {
                 state.reconfigure(setup)?;
                 turn.unwritten = (entries > 0).then_some(segment);
                 self.leave_after_step(state);
+                self.wake_for_room(self.lock());
             }
             None => {
                 state.cut()?;
                 turn.unwritten = Some(segment);
+                self.wake_for_room(state);
             }
         }
-        self.written.notify_all();
         Ok(position + entries)
     }
 
@@ -194,7 +197,7 @@ impl<M: Manager> Shared<M> {
             return Err(io::Error::new(io::ErrorKind::Unsupported, message));
         }
         let mut turn = self
-            .take_turn(state, None)
+            .take_turn(state)
             .ok_or_else(|| io::Error::other("a journal is cut while it is cut"))?;
         let written = match turn.unwritten {
             Some(_) => 0,
@@ -214,7 +217,7 @@ impl<M: Manager> Shared<M> {
             return Ok(0);
         };
         let mut turn = self
-            .take_turn(state, None)
+            .take_turn(state)
             .ok_or_else(|| io::Error::other("a journal is written while it is written"))?;
         self.write_out(&mut turn, outlet)
     }
@@ -223,7 +226,7 @@ impl<M: Manager> Shared<M> {
     pub fn write_rest(&self) {
         let state = self.lock();
         if let Some(outlet) = &self.outlet {
-            if let Some(turn) = self.take_turn(state, None) {
+            if let Some(turn) = self.take_turn(state) {
                 self.write_and_report(turn, outlet);
             }
         }
@@ -239,32 +242,56 @@ impl<M: Manager> Shared<M> {
         if !state.journal.wants_writer() {
             return;
         }
-        if let Some(turn) = self.take_turn(state, None) {
+        if let Some(turn) = self.take_turn(state) {
             self.write_and_report(turn, outlet);
         }
     }
 
-    /// Makes room in a full journal, or waits for the thread that does. Returns whether the journal was cut or has room: then the step
+    /// Makes room in a full journal, or waits until then for the thread that does. Returns whether the journal was cut or has room: then the step
     /// may be tried again, even if others have used the room up meanwhile.
     #[cold]
-    pub fn make_room(&self, limit: WaitLimit) -> bool {
-        let mut state = self.lock();
-        let Some(outlet) = &self.outlet else {
-            return false;
-        };
-        let before = state.first_stored();
-        let end = end_of_wait(limit, state.setup.settings.max_wait_millis);
-        let Some(mut state) = self.wait_for_turn(state, end, LockedPool::has_room) else {
-            return false;
-        };
-        if state.has_room() {
-            return true;
+    pub fn make_room<'a>(
+        &'a self,
+        mut state: Held<'a, M>,
+        kind: Kind,
+        end: Option<Instant>,
+    ) -> bool {
+        let first = state.first_stored();
+        loop {
+            match self.look_for_room(&mut state, kind, first) {
+                Room::Made => return true,
+                Room::Refused => return false,
+                Room::Lacks => return self.write_for_room(state, first),
+                Room::Awaited => {}
+            }
+            let left = end.map(|end| end.saturating_duration_since(Instant::now()));
+            if left == Some(Duration::ZERO) {
+                return false;
+            }
+            state = self.state.wait(state, &self.written, left);
         }
-        if let Some(turn) = self.take_turn(state, end) {
+    }
+
+    /// Returns what there is for a call that found the journal full when its first stored entry had this position.
+    pub fn look_for_room(&self, state: &mut LockedPool<M::Object>, kind: Kind, first: u64) -> Room {
+        let is_closed = kind.needs_open_pool() && state.core.is_closed();
+        let is_made = state.first_stored() != first || state.has_room();
+        match state.journal.writer {
+            _ if is_closed || self.outlet.is_none() => Room::Refused,
+            _ if is_made => Room::Made,
+            None => Room::Lacks,
+            Some(_) if state.journal.is_written_by_this_thread() => Room::Refused,
+            Some(_) => Room::Awaited,
+        }
+    }
+
+    /// Writes a segment for a call that found the journal full. Returns whether the journal was cut or has room then.
+    pub fn write_for_room(&self, state: Held<'_, M>, first: u64) -> bool {
+        if let (Some(outlet), Some(turn)) = (&self.outlet, self.take_turn(state)) {
             self.write_and_report(turn, outlet);
         }
         let mut state = self.lock();
-        state.first_stored() != before || state.has_room()
+        state.first_stored() != first || state.has_room()
     }
 
     /// Writes a segment, and reports that this failed once others may cut the journal.
@@ -326,16 +353,5 @@ impl<M: Manager> Shared<M> {
                 state.core.room() < low
             }
         }
-    }
-}
-
-/// Returns until when a call waits for a thread that writes a segment.
-fn end_of_wait(limit: WaitLimit, max_wait_millis: i64) -> Option<Instant> {
-    let most = u64::try_from(max_wait_millis).map(Duration::from_millis);
-    let set = most.ok().and_then(|most| Instant::now().checked_add(most));
-    match limit {
-        WaitLimit::None => Some(Instant::now()),
-        WaitLimit::Until(end) => set.into_iter().chain([end]).min(),
-        WaitLimit::AsSet => set,
     }
 }

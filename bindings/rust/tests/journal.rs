@@ -5,8 +5,8 @@ mod common;
 #[macro_use]
 mod hooks;
 
-use common::managers::{kept, pair, Numbers};
-use common::tasks::LONGEST;
+use common::managers::{kept, pair, Clock, Numbers};
+use common::tasks::{poll, poll_with, ready, Bell, LONGEST};
 use common::{
     assert_segments_legal, cut_off, entries_of, journal_of, judge_segments, new_folder,
     panic_quietly, panics, texts_of, MemorySink, Stored,
@@ -15,10 +15,11 @@ use std::io::{self, BufWriter, Cursor, Write};
 use std::path::Path;
 use std::sync::atomic::{AtomicBool, AtomicU64, Ordering};
 use std::sync::{mpsc, Arc, Mutex};
+use std::task::{Wake, Waker};
 use std::time::{Duration, Instant};
 use std::{fs, mem, thread};
 use zuphinka::{
-    Abandoned, Builder, Error, Journal, OpenError, Pool, Pooled, Segment, SegmentFolder,
+    Abandoned, Builder, Error, Get, Journal, OpenError, Pool, Pooled, Segment, SegmentFolder,
     SegmentSink, Segments, SettingsError, SinkFailure, WeakPool,
 };
 
@@ -46,6 +47,10 @@ with_and_without_hooks! {
     others_continue_while_a_segment_is_written
     a_reclaim_waits_for_a_segment_as_long_as_its_borrow_may
     a_borrow_waits_for_a_segment_no_longer_than_is_set
+    a_close_ends_a_wait_for_a_segment
+    a_wait_for_a_segment_is_a_part_of_the_wait_for_an_object
+    a_task_waits_for_a_segment_without_its_thread
+    a_task_that_waits_for_a_segment_is_woken_once_there_is_room
     a_borrow_that_waits_for_a_segment_goes_on_once_there_is_room
     a_loan_does_not_begin_before_a_segment_is_stored
     others_continue_while_a_cut_is_written
@@ -275,7 +280,8 @@ fn while_written<const HOOKS: bool, T: Send>(
     let pool = builder.build(Numbers::<HOOKS>).unwrap();
     let (answers, are_answered) = mpsc::channel();
     thread::scope(|scope| {
-        scope.spawn(|| (0..30).for_each(|_| pair(&pool)));
+        // Until the pool is closed.
+        scope.spawn(|| (0..30).all(|_| pool.get().is_ok()));
         is_called.recv().unwrap();
         // The segment is written in the end, so that a borrow that waits for it ends too.
         let writing = scope.spawn(move || {
@@ -311,6 +317,143 @@ fn a_borrow_waits_for_a_segment_no_longer_than_is_set<const HOOKS: bool>() {
     });
     let full = Some(Error::JournalFull);
     assert_eq!(answers, Ok((full, full)), "it waited for it");
+}
+
+/// Borrows until the room of a journal is used up.
+fn use_room_up<const HOOKS: bool>(pool: &Pool<Numbers<HOOKS>>) {
+    let refused = std::iter::repeat_with(|| pool.try_get().map(drop)).find_map(Result::err);
+    assert_eq!(refused, Some(Error::JournalFull));
+}
+
+/// The result of a call of another thread, during which something is done once that thread sleeps.
+fn while_asleep<T: Send>(call: impl FnOnce() -> T + Send, act: impl FnOnce()) -> T {
+    let (begun, has_begun) = mpsc::channel();
+    thread::scope(|scope| {
+        let caller = scope.spawn(move || {
+            begun
+                .send(fs::read_link("/proc/thread-self").unwrap())
+                .unwrap();
+            call()
+        });
+        let stat = Path::new("/proc")
+            .join(has_begun.recv().unwrap())
+            .join("stat");
+        while !fs::read_to_string(&stat).unwrap().contains(") S ") {
+            thread::yield_now();
+        }
+        act();
+        caller.join().unwrap()
+    })
+}
+
+fn a_close_ends_a_wait_for_a_segment<const HOOKS: bool>() {
+    let answer = while_written::<HOOKS, _>(
+        |builder| builder,
+        |pool| {
+            use_room_up(pool);
+            while_asleep(|| pool.get().map(drop), || assert_eq!(pool.close(), 1))
+        },
+    );
+    assert_eq!(answer, Ok(Err(Error::Closed)), "it waits for it");
+}
+
+fn a_wait_for_a_segment_is_a_part_of_the_wait_for_an_object<const HOOKS: bool>() {
+    let (slow, is_called, go_on) = Slow::new();
+    let clock = Clock::default();
+    let builder = Pool::builder().max_total(1).clock(clock.told());
+    let builder = builder.journal(Journal::Segments(Segments::new(slow).limit(200)));
+    let pool = builder.max_wait(LONGEST).build(Numbers::<HOOKS>).unwrap();
+    let held = pool.get().unwrap();
+    let (answer, is_answered) = mpsc::channel();
+    thread::scope(|scope| {
+        scope.spawn(|| answer.send(pool.get().map(drop)).unwrap());
+        while pool.waiting() == 0 {
+            thread::yield_now();
+        }
+        scope.spawn(|| (0..100).all(|_| pool.reclaim().is_ok()));
+        is_called.recv().unwrap();
+        while pool.room() > 0 {
+            assert_eq!(pool.reclaim(), Ok(0));
+        }
+        // Its time is over when it gets the object.
+        clock.set(LONGEST.as_millis() as u64);
+        drop(held);
+        let answer = is_answered.recv_timeout(LONGEST / 4);
+        drop(go_on);
+        assert_eq!(answer, Ok(Err(Error::JournalFull)), "it waits once more");
+    });
+}
+
+/// The error of a borrow of a task that is ready.
+fn error_of<const HOOKS: bool>(get: &mut Get<Numbers<HOOKS>>, bell: &Arc<Bell>) -> Error<()> {
+    ready(poll(get, bell)).map(drop).unwrap_err()
+}
+
+fn a_task_waits_for_a_segment_without_its_thread<const HOOKS: bool>() {
+    let clock = Clock::default();
+    let most = Duration::from_millis(10);
+    let done = while_written::<HOOKS, _>(
+        |builder| builder.max_wait(most).clock(clock.told()),
+        |pool| {
+            use_room_up(pool);
+            let bells = [(); 4].map(|()| Bell::new());
+            let begin = |bell| {
+                let mut get = pool.get_async();
+                assert!(poll(&mut get, bell).is_pending());
+                get
+            };
+            let (mut late, dropped) = (begin(&bells[0]), begin(&bells[1]));
+            drop(dropped);
+            clock.set(5);
+            let mut closed = begin(&bells[2]);
+            clock.set(10);
+            assert_eq!(error_of(&mut late, &bells[0]), Error::JournalFull);
+            // The last waker is the one that is called.
+            assert!(poll(&mut closed, &bells[3]).is_pending());
+            pool.close();
+            let rings: Vec<_> = bells.iter().map(|bell| bell.rings()).collect();
+            assert_eq!(rings, [0, 0, 0, 1]);
+            assert_eq!(error_of(&mut closed, &bells[3]), Error::Closed);
+        },
+    );
+    assert_eq!(done, Ok(()), "it waits on its thread");
+}
+
+/// A waker that panics.
+struct Broke;
+
+impl Wake for Broke {
+    fn wake(self: Arc<Self>) {
+        panic_quietly();
+    }
+}
+
+fn a_task_that_waits_for_a_segment_is_woken_once_there_is_room<const HOOKS: bool>() {
+    let (slow, is_called, go_on) = Slow::new();
+    let (pool, stored) = pool_with_sink::<HOOKS>(
+        |segments| segments,
+        move || {
+            slow.wait();
+            false
+        },
+    );
+    thread::scope(|scope| {
+        let writing = scope.spawn(|| (0..30).for_each(|_| pair(&pool)));
+        is_called.recv().unwrap();
+        use_room_up(&pool);
+        let (bell, mut get) = (Bell::new(), pool.get_async());
+        let mut broken = pool.get_async();
+        assert!(poll_with(&mut broken, &Waker::from(Arc::new(Broke))).is_pending());
+        assert!(poll(&mut get, &bell).is_pending());
+        assert_eq!(bell.rings(), 0);
+        drop(go_on);
+        writing.join().unwrap();
+        assert_eq!(bell.rings(), 1);
+        drop(ready(poll(&mut get, &bell)).unwrap());
+        drop(ready(poll(&mut broken, &bell)).unwrap());
+    });
+    pool.flush_journal().unwrap();
+    assert_segments_legal(&pool, &texts_of(&stored));
 }
 
 fn a_borrow_that_waits_for_a_segment_goes_on_once_there_is_room<const HOOKS: bool>() {
