@@ -1943,6 +1943,33 @@ static void test_goes_on_after_a_cut(void) {
   end_pool(pool);
 }
 
+/* A borrow that finds the journal full while another thread stores a segment waits for that no longer than the pool is open. */
+static void test_close_ends_a_wait_for_a_store(void) {
+  struct zuphinka_pool *pool = open_stored(&maker, "journalLimit = 200\n", NULL, ZUPHINKA_POOL_JOURNAL_SEGMENTS);
+  struct waiter storing = {.pool = pool};
+  bool goes_on = true;
+  atomic_store(&maker.sink.is_held, true);
+  check(pthread_create(&storing.thread, NULL, lend_until_held, &storing) == 0);
+  while (atomic_load(&maker.sink.called) == 0) sleep_for(1);
+  check_error(fill_journal(pool), ZUPHINKA_POOL_ERROR_JOURNAL_FULL);
+  struct waiter waiters[2] = {{.pool = pool}, {.pool = pool}}; /* the second one comes after the close */
+  for (int n = 0; n < 2; n++) {
+    int looks = atomic_load(&maker.looks);
+    atomic_store(&has_gone_on, false);
+    check(pthread_create(&waiters[n].thread, NULL, borrow_and_tell, &waiters[n]) == 0);
+    while (atomic_load(&maker.looks) == looks) sleep_for(1);
+    sleep_for(10);
+    if (n == 0) zuphinka_pool_close(pool);
+    for (int64_t end = milliseconds_now() + LONG / 6; !atomic_load(&has_gone_on) && milliseconds_now() < end;) sleep_for(1);
+    goes_on = goes_on && atomic_load(&has_gone_on);
+  }
+  atomic_store(&maker.sink.is_held, false);
+  join(&storing, 1, ZUPHINKA_POOL_ERROR_CLOSED);
+  join(waiters, 2, ZUPHINKA_POOL_ERROR_CLOSED);
+  check(goes_on);
+  end_pool(pool);
+}
+
 /* A store that calls the pool. */
 static bool store_and_borrow(void *context, uint64_t first, const char *text, size_t size) {
   (void)first, (void)text, (void)size;
@@ -3054,6 +3081,7 @@ static const struct {
     TEST(slow_store),
     TEST(waits_for_a_store_end),
     TEST(goes_on_after_a_cut),
+    TEST(close_ends_a_wait_for_a_store),
     TEST(store_that_borrows),
     TEST(forked),
     TEST(forked_in_a_store),

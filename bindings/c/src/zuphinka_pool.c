@@ -260,11 +260,21 @@ static void keep_room(struct zuphinka_pool *pool, struct run *run) {
   lock(pool);
 }
 
-/* Sleeps while another thread cuts the journal or stores what was cut off, until it was cut more than `cuts` times, and until `end` at most. The lock
- * is held before and after. Returns whether no thread cuts any more. */
-static bool wait_for_cut(struct zuphinka_pool *pool, uint64_t cuts, int64_t end) {
+/* Returns whether the pool is closed, and refuses a call of this kind for that, with the lock held. */
+static bool is_refused(struct zuphinka_pool *pool, uint32_t kind) {
+  bool evicts = kind == ZUPHINKA_KIND_EVICT || kind == ZUPHINKA_KIND_MAINTAIN;
+  return (kind == ZUPHINKA_KIND_BORROW || kind == ZUPHINKA_KIND_ADD || evicts) && look(pool).state.is_closed;
+}
+
+/* Sleeps while another thread cuts the journal or stores what was cut off. If it is for a call, it ends once the journal was cut, or the pool refuses
+ * the call, and lasts no longer than for an object. The lock is held before and after. Returns whether no thread cuts any more. */
+static bool wait_for_cut(struct zuphinka_pool *pool, const struct run *run) {
+  uint64_t cuts = run ? pool->cuts : UINT64_MAX;
+  int64_t end = run ? end_of_wait(run) : NEVER;
   bool may_wait = pool->cutter != UINT64_C(1) + zuphinka_pool_caller();
-  while (pool->cutter && pool->cuts <= cuts && may_wait) may_wait = sleep_on(&pool->conditions[CUT], &pool->lock, end);
+  while (pool->cutter && pool->cuts <= cuts && may_wait && !(run && is_refused(pool, run->start.kind))) {
+    may_wait = sleep_on(&pool->conditions[CUT], &pool->lock, end);
+  }
   return !pool->cutter;
 }
 
@@ -272,7 +282,7 @@ static bool wait_for_cut(struct zuphinka_pool *pool, uint64_t cuts, int64_t end)
 static uint32_t make_room(struct zuphinka_pool *pool, const struct run *run) {
   uint64_t cuts = pool->cuts;
   if (pool->journal != ZUPHINKA_POOL_JOURNAL_SEGMENTS) return ZUPHINKA_REPORT_NO_ROOM;
-  bool has_turn = wait_for_cut(pool, cuts, end_of_wait(run)) && pool->cuts == cuts;
+  bool has_turn = wait_for_cut(pool, run) && pool->cuts == cuts && !is_refused(pool, run->start.kind);
   if (has_turn) cut_and_store(pool, pool->host.store, pool->host.context, NULL, NULL);
   return pool->cuts != cuts ? ZUPHINKA_REPORT_ROOM_MADE : ZUPHINKA_REPORT_NO_ROOM;
 }
@@ -292,8 +302,6 @@ static void begin_run(const struct zuphinka_pool *pool, struct run *run) {
 static enum zuphinka_pool_error error_of_end(struct zuphinka_pool *pool, const struct run *run) {
   uint32_t kind = run->start.kind, end = run->next.end;
   bool makes = kind == ZUPHINKA_KIND_ADD || kind == ZUPHINKA_KIND_FILL; /* an object, which only a pool that was closed meanwhile destroys */
-  bool evicts = kind == ZUPHINKA_KIND_EVICT || kind == ZUPHINKA_KIND_MAINTAIN;
-  bool fails_closed = kind == ZUPHINKA_KIND_BORROW || kind == ZUPHINKA_KIND_ADD || evicts;
   bool is_done = end == ZUPHINKA_END_LENT || end == ZUPHINKA_END_PARKED || end == ZUPHINKA_END_NOTED || end == ZUPHINKA_END_COMPLETE;
   if (is_done || (end == ZUPHINKA_END_DESTROYED && !makes)) return ZUPHINKA_POOL_ERROR_NONE;
   if (end == ZUPHINKA_END_DESTROYED) return ZUPHINKA_POOL_ERROR_CLOSED;
@@ -301,7 +309,7 @@ static enum zuphinka_pool_error error_of_end(struct zuphinka_pool *pool, const s
   if (is_over) return run->limit == AT_ONCE ? ZUPHINKA_POOL_ERROR_EXHAUSTED : ZUPHINKA_POOL_ERROR_TIMED_OUT;
   enum zuphinka_pool_error error = find_error(end, ZUPHINKA_STATUS_DONE);
   bool lacks = error == ZUPHINKA_POOL_ERROR_JOURNAL_FULL || error == ZUPHINKA_POOL_ERROR_OUT_OF_MEMORY;
-  if (lacks && fails_closed && look(pool).state.is_closed) return ZUPHINKA_POOL_ERROR_CLOSED;
+  if (lacks && is_refused(pool, kind)) return ZUPHINKA_POOL_ERROR_CLOSED;
   if (error) return error;
   fprintf(stderr, "zuphinka_pool: a call of kind %u has action %u and end %u\n", kind, run->next.action, end);
   abort();
@@ -344,6 +352,7 @@ static inline bool run_at_once(struct zuphinka_pool *pool, struct run *run) {
 static enum zuphinka_pool_error drive(struct zuphinka_pool *pool, struct run *run) {
   struct zuphinka_call call;
   uint32_t status = zuphinka_begin(&pool->core, &run->start, &call, &run->next);
+  if (run->start.kind == ZUPHINKA_KIND_CLOSE) wake(&pool->conditions[CUT]);
   while (status == ZUPHINKA_STATUS_DONE) {
     if (run->next.action == ZUPHINKA_ACTION_SLEEP) run->wakes = condition_of(pool, run->next.ticket)->wakes;
     if (run->next.has_wake) wake(condition_of(pool, run->next.wake));
@@ -499,7 +508,7 @@ void zuphinka_pool_counts(struct zuphinka_pool *pool, struct zuphinka_tally *cou
 enum zuphinka_pool_error zuphinka_pool_cut(struct zuphinka_pool *pool, zuphinka_pool_store *store, void *context, uint64_t *entries) {
   if (entries) *entries = 0;
   lock(pool);
-  bool has_turn = wait_for_cut(pool, UINT64_MAX, NEVER);
+  bool has_turn = wait_for_cut(pool, NULL);
   enum zuphinka_pool_error error = has_turn ? cut_and_store(pool, store, context, entries, NULL) : ZUPHINKA_POOL_ERROR_IN_USE;
   unlock(pool);
   return error;
@@ -521,7 +530,7 @@ enum zuphinka_pool_error zuphinka_pool_reconfigure(struct zuphinka_pool *pool, c
   change.quarter = setup.journal_limit / 4;
   lock(pool);
   if (pool->journal == ZUPHINKA_POOL_JOURNAL_OFF) error = find_error(ZUPHINKA_END_NONE, cut_off(pool, &change));
-  else if (wait_for_cut(pool, UINT64_MAX, NEVER)) error = cut_and_store(pool, store, context, NULL, &change);
+  else if (wait_for_cut(pool, NULL)) error = cut_and_store(pool, store, context, NULL, &change);
   else error = ZUPHINKA_POOL_ERROR_IN_USE;
   unlock(pool);
   if (change.is_made && first) *first = change.first;
