@@ -5,6 +5,7 @@ use std::env;
 use std::fs::{self, File};
 use std::hash::{BuildHasher, Hasher};
 use std::io::{self, Write};
+use std::os::unix::fs::MetadataExt;
 use std::path::{Path, PathBuf};
 
 /// A part of a pool's journal that is complete: the base that its entries continue, and the entries.
@@ -122,7 +123,7 @@ const SETTINGS: &str = "settings.toml";
 /// synced.
 ///
 /// The settings come first, as a hard link, which fails if another pool has stored its settings there. So no two pools store segments in
-/// one folder. The file system must have hard links. A crash may leave a file `.unfinished-NUMBER`, which nobody reads.
+/// one folder. The file system must have hard links. Nothing is stored while another folder has the path, as where it was moved away. A crash may leave a file `.unfinished-NUMBER`, which nobody reads.
 ///
 /// If [`Pool::reconfigure`](crate::Pool::reconfigure) changes the settings, the new ones are stored in `settings-POSITION.toml`, with the position of
 /// the first segment that has them, and before that segment. So the settings of a segment are in the last of these files whose position is not
@@ -135,8 +136,9 @@ pub struct SegmentFolder {
     path: PathBuf,
     /// Where a file is written before it gets its name. No other pool has this name.
     unfinished: PathBuf,
-    /// The settings that were stored last, once the folder is this pool's.
-    settings: Option<String>,
+    /// Once the folder is this pool's: the file `settings.toml`, which is open so that no other file has its number, and the settings that were stored
+    /// last.
+    own: Option<(File, String)>,
 }
 
 impl SegmentFolder {
@@ -155,16 +157,16 @@ impl SegmentFolder {
         Ok(SegmentFolder {
             unfinished: path.join(format!(".unfinished-{number:016x}")),
             path,
-            settings: None,
+            own: None,
         })
     }
 
     /// Makes the folder this pool's: stores the settings, unless another pool did.
     fn claim(&mut self, settings: &str) -> io::Result<()> {
         check_is_free(&self.path)?;
-        self.write_unfinished(settings.as_bytes())?;
+        let file = self.write_unfinished(settings.as_bytes())?;
         let linked = fs::hard_link(&self.unfinished, self.path.join(SETTINGS));
-        self.settings = linked.is_ok().then(|| settings.to_owned());
+        self.own = linked.is_ok().then(|| (file, settings.to_owned()));
         let removed = fs::remove_file(&self.unfinished);
         linked.map_err(|error| match error.kind() {
             io::ErrorKind::AlreadyExists => is_taken(&self.path),
@@ -177,27 +179,41 @@ impl SegmentFolder {
     /// Stores the settings of a segment, unless the one before has the same.
     fn store_settings(&mut self, segment: &Segment<'_>) -> io::Result<()> {
         let settings = segment.settings;
-        match &self.settings {
-            None => self.claim(settings),
-            Some(stored) if stored == settings => Ok(()),
-            Some(_) => {
-                let name = format!("settings-{:020}.toml", segment.position);
-                self.write(&name, settings.as_bytes())?;
-                self.settings = Some(settings.to_owned());
-                Ok(())
-            }
+        match &self.own {
+            None => return self.claim(settings),
+            Some((_, stored)) if stored == settings => return Ok(()),
+            Some(_) => {}
         }
+        let name = format!("settings-{:020}.toml", segment.position);
+        self.write(&name, settings.as_bytes())?;
+        if let Some((_, stored)) = &mut self.own {
+            settings.clone_into(stored);
+        }
+        Ok(())
     }
 
-    /// Writes a file that is complete once it has its name.
+    /// Fails if another folder has the path of this pool's.
+    fn check_is_own(&self) -> io::Result<()> {
+        let found = fs::metadata(self.path.join(SETTINGS))?;
+        let own = self.own.as_ref().map(|own| own.0.metadata()).transpose()?;
+        let is_own = own.is_some_and(|own| (own.dev(), own.ino()) == (found.dev(), found.ino()));
+        is_own.then_some(()).ok_or_else(|| is_taken(&self.path))
+    }
+
+    /// Writes a file that is complete once it has its name, in this pool's folder. If another one has the path later, the file is not there to be
+    /// renamed.
     fn write(&self, name: &str, contents: &[u8]) -> io::Result<()> {
         self.write_unfinished(contents)?;
+        if let Err(error) = self.check_is_own() {
+            let _ = fs::remove_file(&self.unfinished);
+            return Err(error);
+        }
         fs::rename(&self.unfinished, self.path.join(name))?;
         sync_folder(&self.path)
     }
 
     /// Writes a new file that has no name of its own yet. One that an earlier try left is removed, since it may be `settings.toml` too.
-    fn write_unfinished(&self, contents: &[u8]) -> io::Result<()> {
+    fn write_unfinished(&self, contents: &[u8]) -> io::Result<File> {
         match fs::remove_file(&self.unfinished) {
             Err(error) if error.kind() != io::ErrorKind::NotFound => return Err(error),
             _ => {}
@@ -206,7 +222,8 @@ impl SegmentFolder {
         new.write(true).create_new(true);
         let mut file = new.open(&self.unfinished)?;
         file.write_all(contents)?;
-        file.sync_all()
+        file.sync_all()?;
+        Ok(file)
     }
 }
 

@@ -27,6 +27,7 @@ with_and_without_hooks! {
     a_sink_may_panic_and_call_its_pool
     a_folder_has_the_segments_and_the_settings
     a_folder_that_fails_is_written_later
+    a_folder_that_is_made_anew_is_not_written
     the_last_handle_hands_over_the_rest
     what_a_writer_still_holds_is_not_written
     a_drain_whose_writer_panics_is_continued
@@ -648,6 +649,45 @@ fn a_folder_that_fails_is_written_later<const HOOKS: bool>() {
         .map(|name| fs::read_to_string(path.join(name)).unwrap())
         .collect();
     assert_segments_legal(&pool, &texts);
+    fs::remove_dir_all(folder).unwrap();
+}
+
+fn a_folder_that_is_made_anew_is_not_written<const HOOKS: bool>() {
+    let folder = new_folder();
+    let [path, moved, others] = ["journal", "moved", "others"].map(|name| folder.join(name));
+    let open = || {
+        let segments = Segments::in_folder(&path).unwrap().limit(200);
+        let builder = Pool::builder().journal(Journal::Segments(segments));
+        builder.build(Numbers::<HOOKS>).unwrap()
+    };
+    let pool = open();
+    pair(&pool);
+    assert_eq!(pool.flush_journal().unwrap(), 4);
+    fs::rename(&path, &moved).unwrap();
+    fs::create_dir(&path).unwrap();
+    pair(&pool);
+    assert!(pool.flush_journal().is_err());
+    assert!(files_in(&path).is_empty());
+    // Another pool takes the folder.
+    let other = open();
+    pair(&other);
+    assert_eq!(other.flush_journal().unwrap(), 4);
+    let stored = files_in(&path);
+    let refused = pool.flush_journal().unwrap_err();
+    assert_eq!(refused.kind(), io::ErrorKind::AlreadyExists);
+    assert!(pool.reconfigure("maxTotal = 3").is_err());
+    assert_eq!(files_in(&path), stored);
+    drop(other);
+    fs::rename(&path, &others).unwrap();
+    fs::rename(&moved, &path).unwrap();
+    assert_eq!(pool.flush_journal().unwrap(), 4);
+    let texts = [
+        "segment-00000000000000000000",
+        "segment-00000000000000000004",
+    ]
+    .map(|name| fs::read_to_string(path.join(name)).unwrap());
+    assert_segments_legal(&pool, &texts);
+    assert_eq!(files_in(&path).len(), 3);
     fs::remove_dir_all(folder).unwrap();
 }
 
