@@ -239,6 +239,26 @@ public final class Folders extends Expectations {
         remove(folder); // its journal has no beginning
     }
 
+    /** A folder that was moved away, while another pool took its place. */
+    private static void replaced(Path folder) throws Exception {
+        Path moved = folder.resolveSibling("moved");
+        Noting pool = pool(folder);
+        pool.play(1).flushJournal();
+        Files.move(folder, moved);
+        Noting other = pool(folder);
+        other.play(1).flushJournal();
+        List<String> stored = files(folder);
+        pool.play(1).flushJournal();
+        expect("a folder that another pool has taken", List.of(TAKEN), pool.noted);
+        expect("its files", stored, files(folder));
+        other.close();
+        expect("the failures of its pool", List.of(), other.noted);
+        remove(folder);
+        Files.move(moved, folder);
+        pool.close();
+        expect("the entries of a folder that is back", pool.getCounts().steps(), entries(folder));
+    }
+
     /** What is returned after the close is stored too, also if an object never comes back. */
     private static void returnedLate(Path folder) throws Exception {
         Texts texts = new Texts();
@@ -387,6 +407,7 @@ public final class Folders extends Expectations {
         }
         oneJournal(folder.resolve("one"));
         removed(folder.resolve("removed"));
+        replaced(folder.resolve("replaced"));
         returnedLate(folder.resolve("late"));
         closedInMake(folder.resolve("closed"));
         returnedInSink();

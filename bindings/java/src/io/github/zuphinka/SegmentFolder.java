@@ -10,6 +10,7 @@ import java.nio.file.Files;
 import java.nio.file.Path;
 import java.nio.file.StandardCopyOption;
 import java.nio.file.StandardOpenOption;
+import java.nio.file.attribute.BasicFileAttributes;
 import java.util.List;
 import java.util.Locale;
 import java.util.UUID;
@@ -22,7 +23,8 @@ import java.util.stream.Stream;
  * synced. So is the folder above each new folder.
  *
  * <p>The settings come first, as a hard link, which fails if another pool has stored its settings there. So no two pools store segments in one
- * folder. The file system must have hard links. A crash may leave a file {@code .unfinished-ID}, which nobody reads.
+ * folder. The file system must have hard links. Nothing is stored while a folder of another pool is in the place of this one, which was moved away. A
+ * crash may leave a file {@code .unfinished-ID}, which nobody reads.
  */
 final class SegmentFolder implements SegmentSink {
     private static final String SETTINGS = "settings.toml";
@@ -32,8 +34,8 @@ final class SegmentFolder implements SegmentSink {
     private final Path folder;
     /** Where a file is written before it gets its name. No other pool has this name. */
     private final Path unfinished;
-    /** Whether the folder has got the settings of this pool. */
-    private boolean isOwn;
+    /** What tells the file of settings that this pool has linked in the folder from others; null before. */
+    private Object own;
     /** The settings that were stored last. */
     private String settings;
 
@@ -96,8 +98,12 @@ final class SegmentFolder implements SegmentSink {
     }
 
     private void storeOnce(Segment segment) throws IOException {
-        if (!isOwn || Files.notExists(folder.resolve(SETTINGS))) {
+        Path file = folder.resolve(SETTINGS);
+        Object found = own == null || Files.notExists(file) ? null : identity(file);
+        if (found == null) {
             claim(segment.settings());
+        } else if (!found.equals(own)) {
+            throw new FileAlreadyExistsException(file.toString());
         } else if (!segment.settings().equals(settings)) {
             storeAs("settings-%020d.toml", segment.position(), partsOf(segment.settings()));
         }
@@ -116,18 +122,25 @@ final class SegmentFolder implements SegmentSink {
         return List.of(text.getBytes(StandardCharsets.UTF_8));
     }
 
+    /** What tells a file from others, also from a later one that has got its number. */
+    private static Object identity(Path file) throws IOException {
+        BasicFileAttributes found = Files.readAttributes(file, BasicFileAttributes.class);
+        return List.of(found.fileKey(), found.lastModifiedTime());
+    }
+
     /** Makes the folder this pool's: stores the settings, unless another pool did. A folder that was removed is made again. */
     private void claim(String first) throws IOException {
         create(folder);
-        if (!isOwn) {
+        if (own == null) {
             requireFree();
         }
         writeUnfinished(partsOf(first));
         try {
+            Object linked = identity(unfinished);
             Files.createLink(folder.resolve(SETTINGS), unfinished);
-            isOwn = true;
+            own = linked;
         } catch (FileAlreadyExistsException e) {
-            isOwn = false;
+            own = null;
             throw e;
         } finally {
             Files.delete(unfinished);
