@@ -35,16 +35,18 @@ impl<M: Manager> Reports<M> {
         reporting.unwrap_or_else(PoisonError::into_inner)
     }
 
-    /// Passes a failure to the receiver, unless this thread is in it. A panic of the receiver is ignored.
+    /// Passes a failure to the receiver, unless this thread is in it, or there is no memory to note that it is. A panic of the receiver is ignored.
     pub fn report(&self, failure: Failure<M::Error>) {
         let Some(on_error) = &self.on_error else {
             return;
         };
         let this = thread::current().id();
-        if self.reporting().contains(&this) {
+        let mut reporting = self.reporting();
+        if reporting.contains(&this) || reporting.try_reserve(1).is_err() {
             return;
         }
-        self.reporting().push(this);
+        reporting.push(this);
+        drop(reporting);
         unless_it_panics(|| on_error(failure));
         self.reporting().retain(|thread| *thread != this);
     }

@@ -14,11 +14,13 @@ use std::cell::Cell;
 use std::ffi::c_void;
 use std::io;
 use std::ptr::null_mut;
-use std::sync::{Arc, Mutex};
+use std::sync::atomic::{AtomicU64, Ordering};
+use std::sync::{mpsc, Arc, Mutex};
 use std::task::Poll;
+use std::thread;
 use zuphinka::{
-    Builder, Error, Failure, Get, Journal, Pool, Pooled, ReconfigureError, Segment, SegmentSink,
-    Segments,
+    Builder, Error, Failure, Get, Journal, Manager, Pool, Pooled, ReconfigureError, Returned,
+    Segment, SegmentSink, Segments,
 };
 
 with_and_without_hooks! {
@@ -29,6 +31,8 @@ with_and_without_hooks! {
     a_change_of_settings_that_fails_changes_nothing
     a_task_that_cannot_wait_leaves_the_others_their_turns
     a_thread_that_cannot_wait_leaves_the_others_their_turns
+    a_task_that_cannot_wait_for_a_segment_is_out_of_memory
+    a_failure_that_cannot_be_reported_ends_no_call
 }
 
 thread_local! {
@@ -301,6 +305,75 @@ fn a_thread_that_cannot_wait_leaves_the_others_their_turns<const HOOKS: bool>() 
         assert_eq!(came.unwrap_err(), wanted);
         let borrow = || pool.get().map(|number| *number);
         assert_eq!(while_waiting(&pool, borrow, || drop(held)), Ok(0));
+        has_failed
+    });
+    assert!(failures > 0, "{failures} allocations failed");
+}
+
+/// Stores a segment once it is let go.
+struct Held(mpsc::Sender<()>, mpsc::Receiver<()>);
+
+impl SegmentSink for Held {
+    fn store(&mut self, _segment: &Segment<'_>) -> io::Result<()> {
+        let _ = self.0.send(());
+        let _ = self.1.recv();
+        Ok(())
+    }
+}
+
+fn a_task_that_cannot_wait_for_a_segment_is_out_of_memory<const HOOKS: bool>() {
+    let ((called, is_called), (go_on, may_go_on)) = (mpsc::channel(), mpsc::channel());
+    let segments = Segments::new(Held(called, may_go_on)).limit(200);
+    let builder = Pool::builder().journal(Journal::Segments(segments));
+    let pool = builder.build(Numbers::<HOOKS>).unwrap();
+    thread::scope(|scope| {
+        scope.spawn(|| pairs(&pool, 30));
+        is_called.recv().unwrap();
+        while pool.try_get().is_ok() {}
+        let failures = each_in_turn(|left| {
+            let (bell, mut get) = (Bell::new(), pool.get_async());
+            let (has_failed, does_wait) = failing(left, || waits(&mut get, &bell));
+            assert_eq!(does_wait, !has_failed);
+            has_failed
+        });
+        drop(go_on);
+        assert!(failures > 0, "{failures} allocations failed");
+    });
+}
+
+/// Makes numbers that do not pass their tests.
+struct Unfit<const HOOKS: bool>;
+
+impl<const HOOKS: bool> Manager for Unfit<HOOKS> {
+    type Object = u64;
+    type Error = ();
+    const ACTIVATES: bool = HOOKS;
+    const PASSIVATES: bool = HOOKS;
+
+    fn make(&self, id: u64) -> Result<u64, ()> {
+        Ok(id)
+    }
+
+    fn validate(&self, _: &mut u64) -> bool {
+        false
+    }
+}
+
+fn a_failure_that_cannot_be_reported_ends_no_call<const HOOKS: bool>() {
+    let failures = each_in_turn(|left| {
+        let reports = Arc::new(AtomicU64::new(0));
+        let received = Arc::clone(&reports);
+        let pool = kept().test_on_return(true).on_error(move |_| {
+            received.fetch_add(1, Ordering::Relaxed);
+        });
+        let pool = pool.build(Unfit::<HOOKS>).unwrap();
+        let held = pool.get().unwrap();
+        let (has_failed, returned) = failing(left, || Pooled::give_back(held));
+        assert_eq!(returned, Returned::Destroyed);
+        let reported = reports.load(Ordering::Relaxed);
+        assert!(reported == 1 || (has_failed && reported == 0));
+        Pooled::give_back(pool.get().unwrap());
+        assert_eq!(reports.load(Ordering::Relaxed), reported + 1);
         has_failed
     });
     assert!(failures > 0, "{failures} allocations failed");
