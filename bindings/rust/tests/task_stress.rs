@@ -236,12 +236,15 @@ fn open<const HOOKS: bool>(
 ) -> Pool<Manager<HOOKS>> {
     let sink = MemorySink {
         stored: Arc::clone(stored),
-        fails: || false,
+        fails: || {
+            // Others use the room up meanwhile, and then wait.
+            thread::sleep(Duration::from_millis(1));
+            false
+        },
     };
     let journal = match seed % 3 {
         0 => Journal::Memory(None),
-        // There is room for all entries, so that no call fails for a slow thread that writes.
-        1 => Journal::Segments(Segments::new(sink).limit(100_000)),
+        1 => Journal::Segments(Segments::new(sink).limit(40)),
         _ => Journal::Off,
     };
     let abandoned = Abandoned::new()
