@@ -52,6 +52,7 @@ with_and_without_hooks! {
     a_wait_for_a_segment_is_a_part_of_the_wait_for_an_object
     a_task_waits_for_a_segment_without_its_thread
     a_task_that_waits_for_a_segment_is_woken_once_there_is_room
+    a_task_that_waits_for_a_segment_hands_its_wake_on
     a_borrow_that_waits_for_a_segment_goes_on_once_there_is_room
     a_loan_does_not_begin_before_a_segment_is_stored
     others_continue_while_a_cut_is_written
@@ -455,6 +456,40 @@ fn a_task_that_waits_for_a_segment_is_woken_once_there_is_room<const HOOKS: bool
     });
     pool.flush_journal().unwrap();
     assert_segments_legal(&pool, &texts_of(&stored));
+}
+
+fn a_task_that_waits_for_a_segment_hands_its_wake_on<const HOOKS: bool>() {
+    let (slow, is_called, go_on) = Slow::new();
+    let builder = Pool::builder().max_total(1);
+    let builder = builder.journal(Journal::Segments(Segments::new(slow).limit(200)));
+    let pool = builder.build(Numbers::<HOOKS>).unwrap();
+    let held = pool.get().unwrap();
+    let bells = [(); 2].map(|()| Bell::new());
+    let mut gets = [(); 2].map(|()| pool.get_async());
+    for (get, bell) in gets.iter_mut().zip(&bells) {
+        assert!(poll(get, bell).is_pending());
+    }
+    let [mut first, mut second] = gets;
+    thread::scope(|scope| {
+        let writing = scope.spawn(|| (0..100).all(|_| pool.reclaim().is_ok()));
+        is_called.recv().unwrap();
+        while pool.room() > 0 {
+            assert_eq!(pool.reclaim(), Ok(0));
+        }
+        drop(held);
+        assert_eq!((bells[0].rings(), bells[1].rings()), (1, 0));
+        assert!(poll(&mut first, &bells[0]).is_pending());
+        drop(first);
+        assert_eq!((bells[0].rings(), bells[1].rings()), (0, 1));
+        assert!(poll(&mut second, &bells[1]).is_pending());
+        drop(go_on);
+        assert!(writing.join().unwrap());
+        assert!(bells[1].rings() > 0);
+        assert_eq!(
+            ready(poll(&mut second, &bells[1])).map(|number| *number),
+            Ok(0)
+        );
+    });
 }
 
 fn a_borrow_that_waits_for_a_segment_goes_on_once_there_is_room<const HOOKS: bool>() {
