@@ -123,7 +123,8 @@ const SETTINGS: &str = "settings.toml";
 /// synced.
 ///
 /// The settings come first, as a hard link, which fails if another pool has stored its settings there. So no two pools store segments in
-/// one folder. The file system must have hard links. Nothing is stored while another folder has the path, as where it was moved away. A crash may leave a file `.unfinished-NUMBER`, which nobody reads.
+/// one folder. The file system must have hard links. Nothing is stored while another folder has the path, as where it was moved away. A crash may
+/// leave a file `.unfinished-NUMBER`, which nobody reads.
 ///
 /// If [`Pool::reconfigure`](crate::Pool::reconfigure) changes the settings, the new ones are stored in `settings-POSITION.toml`, with the position of
 /// the first segment that has them, and before that segment. So the settings of a segment are in the last of these files whose position is not
