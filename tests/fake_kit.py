@@ -10,8 +10,8 @@ from playing import TOP
 TOOLS = ("tools/build.py", "tools/kit.py", "tools/sources.py")
 # A run that takes longer hangs, in seconds.
 LONGEST = 60
-# What tools/kit.py uses of the kit's view of crates. The file that CALLS names has a line for each build: what is built, the crate, the words for
-# the kit, and how nice it is. MEANWHILE is a command that each build runs with the crate's name as $1.
+# What tools/kit.py uses of the kit's view of crates. The file that CALLS names has a line for each build: what is built, the crate, and the words
+# for the kit. MEANWHILE is a command that each build runs with the crate's name as $1.
 RTLIB = """import os, pathlib, subprocess
 
 KIT, RATTLE = "/kit", "rattle"
@@ -36,7 +36,7 @@ class Crate:
 
     def prove(self, what, flags):
         with open(os.environ["CALLS"], "a") as calls:
-            print(what, self.name, *flags, os.nice(0), file=calls)
+            print(what, self.name, *flags, file=calls)
         if (self.folder / "src/broken").exists() or not all(any(pathlib.Path(it.rlib).glob("*/*")) for it in self.below()):
             print(f"{self.name} is refused")
             return 1

@@ -7,8 +7,7 @@
 Prints on standard error which crates it builds, how many are done, and how long it has worked. It shows the output of a build only if the build
 failed, and the status is then 1. It passes over crates that are built of their sources as they are (tools/sources.py), and prints nothing if all are.
 
-A build on which a longer chain of crates waits comes first: the first two have a job for each processor, the others half as many, and each has less
-priority than those before it. tools/kit.py builds one crate.
+Builds that run side by side share the processors, as far as there is memory. tools/kit.py builds one crate.
 
 BUILD_JOBS in the environment is the number of processors to take, if it is smaller: other work runs beside the build, and with fewer jobs a build takes
 less processor time.
@@ -31,10 +30,6 @@ from sources import TOP, below, libraries
 TOOLS = pathlib.Path(__file__).resolve().parent
 # For how long to wait before looking again, and before saying again how long it has been, in seconds.
 PAUSE, REMIND = 0.2, 60
-# By how much nicer a build is for each one beside it that a longer chain waits for, and the most that it may be.
-NICER, NICEST = 3, 19
-# How many builds have a job for each processor.
-FULL = 2
 # The memory that each job may take, in bytes.
 EACH_JOB = 1_500_000_000
 
@@ -68,10 +63,6 @@ class Work:
     def __init__(self, program, wanted):
         self.program, self.total, self.done = program, len(wanted), 0
         self.sums = {crate: sources.sum_of_sources(crate) for crate in wanted}
-        # How many crates of the longest chain wait for each.
-        self.waits = {}
-        for crate in sorted(wanted, key=lambda name: -len(below(name))):
-            self.waits[crate] = 1 + max((self.waits[user] for user in self.waits if crate in below(user)), default=0)
         self.order = graphlib.TopologicalSorter({crate: below(crate).intersection(wanted) - {crate} for crate in wanted})
         self.order.prepare()
         self.running = {}
@@ -80,15 +71,13 @@ class Work:
     def say(self):
         """Says how far the work is."""
         minutes, seconds = divmod(int(time.monotonic() - self.began), 60)
-        names = ", ".join(sorted(self.running, key=lambda crate: -self.waits[crate]))
-        print(f"{self.program}: {self.done} of {self.total} crates, {minutes}:{seconds:02} min: {names}", file=sys.stderr, flush=True)
+        print(f"{self.program}: {self.done} of {self.total} crates, {minutes}:{seconds:02} min: {', '.join(self.running)}", file=sys.stderr, flush=True)
 
     def start(self, crate):
-        """Starts a build, with fewer jobs and less priority while longer chains wait for others."""
-        rank = sum(self.waits[other] > self.waits[crate] for other in self.running)
-        jobs = min(processors() if rank < FULL else processors() // 2, free_memory() // EACH_JOB)
+        """Starts a build, with fewer jobs where others run already."""
+        jobs = min(processors() // (1 + len(self.running)), free_memory() // EACH_JOB)
         log = tempfile.TemporaryFile("w+")
-        words = ["nice", "-n", str(min(NICER * rank, NICEST)), sys.executable, TOOLS / "kit.py", crate, str(max(1, jobs))]
+        words = [sys.executable, TOOLS / "kit.py", crate, str(max(1, jobs))]
         self.running[crate] = subprocess.Popen(words, stdin=subprocess.DEVNULL, stdout=log, stderr=log), log
 
     def finish(self, crate):
@@ -112,7 +101,7 @@ class Work:
         """Builds all of it."""
         said = 0.0
         while self.order.is_active():
-            ready = sorted(self.order.get_ready(), key=lambda crate: -self.waits[crate])
+            ready = self.order.get_ready()
             for crate in ready:
                 self.start(crate)
             if ready or time.monotonic() - said > REMIND:
