@@ -1,5 +1,5 @@
 #!/usr/bin/env python3
-"""Sees that bench/peers, bench/longest_waits, bench/database and bench/soak find what is wrong, and that bench/two_pools runs.
+"""Sees that bench/peers, bench/longest_waits, bench/database and bench/soak find what is wrong.
 
     play_bench.py POOL
 
@@ -24,7 +24,7 @@ import types
 from playing import NO_CARGO, TOP, has, play_checks, scratch, skip
 from postgres_server import Server
 
-from contest import LIBRARY, LONGEST, Miscounted, runs_cargo
+from contest import LONGEST, Miscounted, runs_cargo
 from entrants import (
     C, CLOCK, COMMONS, COMMONS_HOOKS, COUNTER, HIKARI, HIKARI_JAR, HOOKS, IN_PLACE, JAVA, JAVA_HOOKS, LOAD, OF_JAVA, PLAIN, R2D2, Row,
     is_right_contestant,
@@ -252,19 +252,6 @@ def soak():
         yield f"a load with {word} {number}", True, bool(SOAK.fault_of_load(LOADED | {word: number}))
 
 
-def two_pools():
-    """The C pool is measured beside itself, as it is and where it is named, if there is a C compiler."""
-    if not has("bench/two_pools", "gcc"):
-        return
-    form = r"first \d+ {0}, second \d+ {0}, ratio \d+\.\d\d\n"
-    for builds in [], [TOP / "bindings/c", LIBRARY] * 2:
-        done = run("two_pools", *builds, "--pairs", "100", "--rounds", "3")
-        yield "bench/two_pools", (True, 0), (bool(re.search(f"^{form.format('ns')}", done.stdout, re.MULTILINE)) or done, done.returncode)
-    if has("bench/two_pools --instructions", "valgrind"):
-        done = run("two_pools", "--instructions", "--pairs", "100")
-        yield "bench/two_pools --instructions", (True, 0), (bool(re.fullmatch(form.format("instructions"), done.stdout)) or done, done.returncode)
-
-
 def turns():
     """A right report of a turn passes, and a wrong one is an error. A ratio to the best other pool of the language that is too small is told."""
     turn = database.turn_of(PLAYED)
@@ -320,7 +307,7 @@ def transfers():
 
 
 def checks(pool):
-    for part in soak, contestants, waits, two_pools, turns, missing_database:
+    for part in soak, contestants, waits, turns, missing_database:
         yield from part()
     if has("bench/database", "postgresql"):
         yield from players()

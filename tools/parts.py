@@ -108,7 +108,7 @@ PACKAGES = (
     Package("libc6-dev", "/usr/include/stdio.h"),
     Package("g++", "g++", ("c-programs", "c-pool"), "CXX"),
     Package("clang", "clang++", ("c-programs", "c-pool"), "CXX"),
-    Package("valgrind", "valgrind", ("c-programs", "c-crowd", "c-many", "c-pool", "benchmarks")),
+    Package("valgrind", "valgrind", ("c-programs", "c-crowd", "c-many", "c-pool")),
     Package("make", "make", ("c-install", "commands")),
     Package("pkgconf", "pkg-config", ("c-install", "release")),
     # The cargo of Debian 12's package of that name is older than the Rust crate allows.
