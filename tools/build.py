@@ -71,7 +71,8 @@ class Work:
     def say(self):
         """Says how far the work is."""
         minutes, seconds = divmod(int(time.monotonic() - self.began), 60)
-        print(f"{self.program}: {self.done} of {self.total} crates, {minutes}:{seconds:02} min: {', '.join(self.running)}", file=sys.stderr, flush=True)
+        far = f"{self.done} of {self.total} crates, {minutes}:{seconds:02} min"
+        print(f"{self.program}: {far}: {', '.join(self.running)}", file=sys.stderr, flush=True)
 
     def start(self, crate):
         """Starts a build, with fewer jobs where others run already."""

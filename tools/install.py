@@ -64,7 +64,7 @@ def heap_of_kit():
     try:
         page = subprocess.run(["rt", "doc"], capture_output=True, text=True, check=True).stdout.split()[0]
     except (OSError, subprocess.CalledProcessError, IndexError):
-        sys.exit("rt: not on the PATH; name the kit's liblibc_c.a with --heap")
+        sys.exit("rt: not on the PATH; tools/install.py takes the kit's liblibc_c.a by --heap")
     return pathlib.Path(page).parent / "c/liblibc_c.a"
 
 

@@ -1,11 +1,10 @@
 #!/usr/bin/env python3
 """Builds the pool for Java: the native library over the core's C library, and a jar that has it.
 
-    tools/java.py [--library FILE] [--heap FILE]
+    tools/java.py
 
-FILE is libzuphinka.a, else that of crates/zuphinka/out, which is proved and built first if that is needed; and the kit's liblibc_c.a, by which the
-library allocates, else that of the command `rt`. JAVA_HOME names the JDK, else it is that of the command javac; COMMONS_POOL2 the jar of Commons
-Pool 2, else it is Debian's; CC the C compiler, else it is cc. Made are, in bindings/java/out,
+The C library is that of crates/zuphinka/out, which is proved and built first if that is needed. JAVA_HOME names the JDK, else it is that of the
+command javac; COMMONS_POOL2 the jar of Commons Pool 2, else it is Debian's; CC the C compiler, else it is cc. Made are, in bindings/java/out,
 
     libzuphinka_jni.so            the native library
     zuphinka.jar                  the classes and the native library; its manifest names the module, and commons-pool2.jar as its class path
@@ -15,7 +14,6 @@ The same sources, library and compilers give the same bytes. The status is 1 if 
 missing: then its package is named.
 """
 
-import argparse
 import os
 import pathlib
 import re
@@ -119,22 +117,16 @@ def drop_in(folder=OUT):
 
 
 def main():
-    words = argparse.ArgumentParser(description="Builds the pool for Java.")
-    words.add_argument("--library", type=pathlib.Path, help="libzuphinka.a")
-    words.add_argument("--heap", type=pathlib.Path, help="the kit's liblibc_c.a")
-    given = words.parse_args()
+    if len(sys.argv) > 1:
+        sys.exit(__doc__)
     try:
         jdk(), commons_pool()
     except Missing as missing:
         print(f"java: {missing}", file=sys.stderr)
         return MISSING
-    if not given.library and subprocess.run([sys.executable, BUILD, "zuphinka"]).returncode:
+    if subprocess.run([sys.executable, BUILD, "zuphinka"]).returncode:
         return 1
-    library, heap = given.library or LIBRARY, given.heap or heap_of_kit()
-    for file in library, heap:
-        if not file.is_file():
-            sys.exit(f"{file}: no such file")
-    print(build(library, heap))
+    print(build(LIBRARY, heap_of_kit()))
     return 0
 
 
