@@ -1,13 +1,13 @@
 #!/usr/bin/env python3
 """Runs the tests of Commons Pool 2, unchanged, over the pool for Java, and compares which pass with docs/guide/commons-pool-tests.md.
 
-    play_commons_pool.py [--source FOLDER] LIBRARY POOL JUDGE
+    play_commons_pool.py LIBRARY POOL JUDGE
     play_commons_pool.py --fetch
 
-LIBRARY is libzuphinka.a, POOL and JUDGE the programs `pool` and `judge`, and FOLDER the source of Commons Pool 2 of the version that is installed.
-Else COMMONS_POOL2_SOURCE names it, or Debian's archive of it is downloaded, unless --fetch has stored it in the folder out. The tests run in several
-virtual machines, over the GenericObjectPool of bindings/java/commons-pool2, which comes before the library's and passes each call on. A test that does
-not end as the page says runs again, alone, up to twice.
+LIBRARY is libzuphinka.a, POOL and JUDGE are programs. COMMONS_POOL2_SOURCE names the folder with the source of Commons Pool 2 of the
+version that is installed. Else Debian's archive of it is downloaded, unless --fetch has stored it in the folder out. The tests run in several virtual
+machines, over the GenericObjectPool of bindings/java/commons-pool2, which comes before the library's and passes each call on. A test that does not
+end as the page says runs again, alone, up to twice.
 
 What fails is a test that fails without a row on the page, that passes although its row says that it differs, or that does not exist; a class of which
 another number of tests passes; and a journal that is not legal, of a pool that a test closed. If a tool, a library or the source is missing, all of
@@ -16,7 +16,6 @@ it is skipped, with the reason.
 Prints what fails, and in the end the line 'N passed, M failed'.
 """
 
-import argparse
 import collections
 import contextlib
 import hashlib
@@ -48,6 +47,7 @@ VERSION = "2.11.1"
 ARCHIVE = f"http://deb.debian.org/debian/pool/main/c/commons-pool2/commons-pool2_{VERSION}.orig.tar.xz"
 CHECKSUM = "16deaefe5bd9ec8f242b1836459f672a786382d1154971fc2488c65eb62ae36f"
 FETCHED = TOP / "out" / pathlib.PurePosixPath(ARCHIVE).name
+SOURCE = os.environ.get("COMMONS_POOL2_SOURCE")
 # The jars that the tests need besides, and the packages that have them.
 JUNIT = ("junit-jupiter-api", "junit-jupiter-engine", "junit-platform-commons", "junit-platform-engine", "junit-platform-launcher")
 JARS = dict.fromkeys((*JUNIT, "apiguardian-api", "opentest4j", "hamcrest"), "junit5") | dict.fromkeys(("cglib", "asm"), "libcglib-java")
@@ -129,7 +129,7 @@ def archive():
 
 def fetch():
     """Stores the archive, unless another source is named. Returns the status to end with."""
-    if os.environ.get("COMMONS_POOL2_SOURCE"):
+    if SOURCE:
         return 0
     try:
         packed = archive()
@@ -235,10 +235,10 @@ def checks_of_journals(pool, judge, folder):
     yield "there are journals", True, bool(journals)
 
 
-def checks(library, pool, judge, source):
+def checks(library, pool, judge):
     page = read_page()
     with scratch() as folder:
-        source = source or unpacked(folder)
+        source = pathlib.Path(SOURCE) if SOURCE else unpacked(folder)
         jar = java.build(library, heap_of_kit(), folder / "out")
         tests = Tests(page.classes(), source, jar, folder)
         found = tests.run("list", page.classes())
@@ -252,20 +252,13 @@ def checks(library, pool, judge, source):
         yield from checks_of_journals(pool, judge, folder)
 
 
-def main():
-    words = argparse.ArgumentParser(description=__doc__, formatter_class=argparse.RawDescriptionHelpFormatter)
-    words.add_argument("--source", type=pathlib.Path, default=os.environ.get("COMMONS_POOL2_SOURCE"), help="the source of Commons Pool 2")
-    words.add_argument("--fetch", action="store_true", help="store the archive of the source, and test nothing")
-    words.add_argument("products", metavar="LIBRARY POOL JUDGE", nargs="*", type=pathlib.Path, help="libzuphinka.a, and two programs, unless --fetch")
-    given = words.parse_args()
-    if not given.fetch and len(given.products) != 3:
-        words.error("LIBRARY, POOL and JUDGE are missing")
-    if given.fetch:
+def main(*words):
+    if words == ("--fetch",):
         return fetch()
-    if given.source and not (given.source / "src/test/java").is_dir():
-        sys.exit(f"{given.source}/src/test/java: no such folder\n0 passed, 1 failed")
-    return play_with_java("the tests of Commons Pool 2", checks(*given.products, given.source), jars)
+    if SOURCE and not (pathlib.Path(SOURCE) / "src/test/java").is_dir():
+        sys.exit(f"{SOURCE}/src/test/java: no such folder\n0 passed, 1 failed")
+    return play_with_java("the tests of Commons Pool 2", checks(*map(pathlib.Path, words)), jars)
 
 
 if __name__ == "__main__":
-    sys.exit(main())
+    sys.exit(main(*sys.argv[1:]))
