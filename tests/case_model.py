@@ -6,7 +6,7 @@ A text that begins with `pool:` is written to standard error, and the status is 
 import re
 import tomllib
 
-from pool_model import DEFAULTS, OF_ABANDONED, LineFault, is_evicting, read_entry, read_head, read_record, read_request, words_of
+from pool_model import DEFAULTS, OF_ABANDONED, LineFault, is_evicting, read_entry, read_head, read_record, read_request, told, words_of
 
 # The ranges of the numbers in a settings file; the other settings are true or false.
 COUNT, MILLIS, DELAY = (-(2**31), 2**31 - 1), (-1, 2**53), (0, 2**53)
@@ -21,11 +21,6 @@ KEYS = {*DEFAULTS, *OF_CALLERS, "abandoned"}
 SHORT = {"\b": "\\b", "\t": "\\t", "\n": "\\n", "\f": "\\f", "\r": "\\r", "\\": "\\\\"}
 CONTROL = re.compile(r"[\x00-\x1f\x7f]")
 STATISTICS = ("borrowed", "returned", "created", "destroyed", "evicted", "borrowtestfailed", "reclaimed", "longest", "total")
-
-
-def told(line, fault):
-    """What the program writes of a line with a fault."""
-    return b"pool: line %d: %s\n" % (line, str(fault).encode())
 
 
 def run(pool, script, first):
