@@ -5,7 +5,8 @@ segment in one that has the segment's position too.
 """
 
 import re
-import subprocess
+
+from playing import run
 
 # The base before all entries.
 EMPTY_BASE = b"pool-journal 2 0 0 open none 0 0 0 0\n"
@@ -37,7 +38,7 @@ def judged(judge, folder):
     `judge`, and begins at the base that the one before it reached."""
     reached = None
     for settings, segment in with_settings(folder):
-        done, text = subprocess.run([judge, settings, segment], capture_output=True), segment.read_bytes()
+        done, text = run(judge, settings, segment), segment.read_bytes()
         begins = text.startswith(reached) if reached else text.startswith(EMPTY_BASE) or not text.startswith(b"pool-journal")
         if done.returncode or not begins:
             return f"{segment.name} with {settings.name}: {done.stderr.decode() or 'another base'}", 0

@@ -11,12 +11,11 @@ check_cases.py  The last line is 'N passed, M failed'.
 
 import itertools
 import re
-import subprocess
 import sys
 
 from case_files import CASES, Case, CaseError, read_cases, read_file, written
 from make_cases import SEEDED, files_made, remade
-from playing import play_checks, scratch
+from playing import play_checks, run, scratch
 
 GOOD = """# A heading.
 
@@ -157,8 +156,7 @@ def check_unpacking(folder):
         none: (1, f"[Errno 2] No such file or directory: '{none}'"), folder / "empty": (1, f"{folder / 'empty'}: no file of cases"),
     }
     for number, (path, (status, told)) in enumerate(wanted.items()):
-        command = [sys.executable, CASES.parent / "case_files.py", path, folder / f"unpacked-{number}"]
-        done = subprocess.run(command, capture_output=True, text=True)
+        done = run(sys.executable, CASES.parent / "case_files.py", path, folder / f"unpacked-{number}", text=True)
         yield f"unpacking {path.name}", (status, told and f"case_files.py: {told}\n"), (done.returncode, done.stderr)
     statistics = b"borrowed 0\nreturned 0\ncreated 1\ndestroyed 0\nevicted 0\nborrowtestfailed 0\nreclaimed 0\nlongest 0\ntotal 0\n"
     wanted = {

@@ -17,7 +17,6 @@ Prints what fails, and in the end the line 'N passed, M failed'.
 import os
 import pathlib
 import re
-import subprocess
 import sys
 import tomllib
 
@@ -39,8 +38,6 @@ TYPES = {"u64": "uint64_t", "u32": "uint32_t", "i64": "int64_t", "i32": "int32_t
 STRUCTS = {"Handle": "", "Settings": "_setup", "Counts": "_tally"}
 # The functions that the binding does without: it opens pools with options.
 UNUSED = {"zuphinka_version", "zuphinka_open", "zuphinka_set_overtakes", "zuphinka_is_lent"}
-# A run that takes longer hangs.
-LONGEST = 1200
 WORKERS, ROUNDS = 4, 20_000
 # The examples that store a journal, with what they print.
 STORING = {"first_loan": b"session 0\n", "servers": b""}
@@ -51,7 +48,7 @@ MEASURED = 80_000
 def tests(package, *options, **variables):
     """Each test of cargo's in a package, and that there are some, and cargo says that they passed."""
     command = ["cargo", "test", "--no-fail-fast", "--offline", *options]
-    done = subprocess.run(command, cwd=package, env=os.environ | variables, capture_output=True, text=True, timeout=LONGEST)
+    done = run(*command, cwd=package, env=os.environ | variables, text=True)
     passed, failed = (sum(map(int, column)) for column in zip(*RESULT.findall(done.stdout) or [(0, 0)]))
     if done.returncode or not passed:
         print(done.stdout + done.stderr)
@@ -71,7 +68,7 @@ def check_trial():
 def check_stored(example, printed, pool):
     """What an example prints, and the journal that it stores, judged by the program."""
     with scratch() as folder:
-        done = run(example, folder / "journal", timeout=LONGEST)
+        done = run(example, folder / "journal")
         yield example.name, (printed, 0), (done.stdout, done.returncode and done)
         yield f"the journal of {example.name}", *stored_journal(pool, folder / "journal")
 
@@ -132,7 +129,7 @@ def check_pairs(pairs, pool):
         settings, journal = folder / "settings.toml", folder / "journal"
         settings.write_text(f"maxTotal = {WORKERS}\nmaxIdle = {WORKERS}\n")
         for words in [], ["instant"], ["hooks"], ["memory", "instant"], [f"segments={journal}", "hooks"]:
-            done = run(pairs, settings, str(WORKERS), str(ROUNDS), *words, timeout=LONGEST)
+            done = run(pairs, settings, str(WORKERS), str(ROUNDS), *words)
             created, *others = numbers(dict(line.split() for line in done.stdout.decode().splitlines()), "created", "destroyed", "steps", "refused")
             steps = 4 * WORKERS * ROUNDS + 2 * created + 1
             yield f"pairs {words}", (True, [created, steps, 0]), (1 <= created <= WORKERS or done, others)

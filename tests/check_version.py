@@ -11,11 +11,10 @@ and in the end the line 'N passed, M failed'.
 
 import pathlib
 import re
-import subprocess
 import sys
 import tomllib
 
-from playing import TOP, play_checks
+from playing import TOP, play_checks, run
 
 PROGRAMS = ["journal_picture", "judge", "pool"]
 HEADER = "bindings/c/include/zuphinka.h"
@@ -61,7 +60,7 @@ def checks(version, programs):
         yield f"the source of {name}", f"{name} {version}", line
     for program in map(pathlib.Path, programs):
         wanted = f"{program.name} {version}\n" if program.name in printed() else ""
-        yield f"{program} --version", wanted, subprocess.run([program, "--version"], capture_output=True, text=True, stdin=subprocess.DEVNULL).stdout
+        yield f"{program} --version", wanted, run(program, "--version", text=True).stdout
 
 
 if __name__ == "__main__":

@@ -22,7 +22,7 @@ import subprocess
 import sys
 
 from many_objects import NO_LIMITS, segments_of
-from playing import preloaded, run, scratch, tell
+from playing import ended, preloaded, run, scratch, tell
 from pool_model import settings_of
 
 # The buffer for what comes, that for what waits to be written, and the longest line. At most so many bytes less are read at once.
@@ -113,10 +113,9 @@ class Counter:
 
     def count(self, arguments, status=0):
         """Runs the program to its end, which must have this status: what is counted."""
-        streams = {"stdout": subprocess.DEVNULL, "stderr": subprocess.DEVNULL if status else None}
-        done = subprocess.run([self.pool, *arguments], cwd=self.folder, env=self.environment, timeout=60, **streams)
+        done = run(self.pool, *arguments, cwd=self.folder, env=self.environment, stdout=subprocess.DEVNULL)
         if done.returncode != status:
-            raise RuntimeError(f"{arguments[:4]}: status {done.returncode}")
+            raise RuntimeError(f"{arguments[:4]}: status {done.returncode}, {done.stderr}")
         return self.counted()
 
     def play(self, script, command):
@@ -156,7 +155,7 @@ class Counter:
                 done = run(self.pool, *arguments, cwd=self.folder, env=self.environment, stdin=text.stdout)
             finally:
                 text.kill()
-        self.expect(f"{name}: right answers {done}", int((done.stdout, done.stderr, done.returncode) == wanted), 1, 1)
+        self.expect(f"{name}: right answers {done}", int(ended(done) == wanted), 1, 1)
         # Pipes give less than is asked for.
         self.expect(f"{name}: bytes read", self.counted()["read"], len(front) + 1, len(front) + len(line) + 1000 * LINE + 2 * BUFFER)
 
@@ -241,11 +240,10 @@ def allocations_of_calls(counter, tally, name, texts, wanted):
         (counter.folder / file).write_bytes(text)
     found, before = {}, 0
     for call in CALLS:
-        command = [tally, "settings.toml", "journal", "segment", call]
-        done = subprocess.run(command, cwd=counter.folder, env=counter.environment, capture_output=True, timeout=60)
+        done = run(tally, "settings.toml", "journal", "segment", call, cwd=counter.folder, env=counter.environment)
         allocations = counter.counted()["allocations"]
         found[call], before = allocations - before, allocations
-    counter.expect(f"{name}: right answers {done}", int((done.stdout, done.stderr, done.returncode) == (wanted, b"", 0)), 1, 1)
+    counter.expect(f"{name}: right answers {done}", int(ended(done) == (wanted, b"", 0)), 1, 1)
     return found
 
 

@@ -2,14 +2,11 @@
 
 import os
 import shutil
-import subprocess
 import sys
 
-from playing import TOP
+from playing import TOP, run
 
 TOOLS = ("tools/build.py", "tools/kit.py", "tools/sources.py")
-# A run that takes longer hangs, in seconds.
-LONGEST = 60
 # What tools/kit.py uses of the kit's view of crates. The file that CALLS names has a line for each build: what is built, the crate, and the words
 # for the kit. MEANWHILE is a command that each build runs with the crate's name as $1.
 RTLIB = """import os, pathlib, subprocess
@@ -98,6 +95,5 @@ class Repository:
     def run(self, *words, given="", **more):
         """Runs a file of the repository with words, where the environment has more. What is noted is of this run alone."""
         self.calls.write_text("")
-        options = {"cwd": self.folder, "env": self.environment | more, "input": given, "capture_output": True, "text": True}
         words = [*[sys.executable] * str(words[0]).endswith(".py"), self.top / words[0], *words[1:]]
-        return subprocess.run(words, timeout=LONGEST, **options)
+        return run(*words, cwd=self.folder, env=self.environment | more, input=given, text=True)

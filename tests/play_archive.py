@@ -17,7 +17,7 @@ import collections
 import pathlib
 import sys
 
-from playing import play_checks, run, scratch
+from playing import ended, play_checks, run, scratch
 from play_damaged import Chance
 from play_segments import damaged, judged
 from pool_model import settings_of, verdict_of_segments
@@ -72,8 +72,8 @@ def ways(segments, settings, chance):
 def checks_of_run(program, output, pool, chance):
     """What a run leaves."""
     with scratch() as folder:
-        done = run(program, folder, timeout=120)
-        yield "the run", (output, b"", 0), (done.stdout, done.stderr, done.returncode)
+        done = run(program, folder)
+        yield "the run", (output, b"", 0), ended(done)
         if done.returncode:
             return
         settings = folder / "archive.toml"
@@ -82,7 +82,7 @@ def checks_of_run(program, output, pool, chance):
         yield "the calls", None, miscounted(files)
         for how, left, verdict in ways([text for _, text in files], settings_of(settings.read_text()), chance):
             yield how, "right", judged(pool, how, settings, left, verdict) or "right"
-        again = run(program, folder, timeout=120)
+        again = run(program, folder)
         yield "a second run", (1, True), (again.returncode, files == [(path.name, path.read_bytes()) for path in sorted(folder.glob("segment-*"))])
 
 

@@ -11,24 +11,18 @@ have the sums of the orders; its journal must be legal, have the statistics that
 import pathlib
 import re
 import sqlite3
-import subprocess
 import sys
 
 from check_picture import differences
-from playing import play_checks, scratch
+from playing import ended, play_checks, run, scratch
 
 CRATE = pathlib.Path(__file__).resolve().parent.parent / "crates/example_bank"
 SETTINGS = re.compile('const SETTINGS: &str = "(.*?)";', re.DOTALL)
 CLERKS, ORDERS, BOOKS = 4, 25, 3
 # One loan for each order, and one more for the order over which a connection broke.
 STATISTICS = {
-    "borrowed": CLERKS * ORDERS + 1,
-    "returned": CLERKS * ORDERS - 1,
-    "created": BOOKS + 3,
-    "destroyed": BOOKS + 2,
-    "evicted": 0,
-    "borrowtestfailed": 1,
-    "reclaimed": 1,
+    "borrowed": CLERKS * ORDERS + 1, "returned": CLERKS * ORDERS - 1, "created": BOOKS + 3, "destroyed": BOOKS + 2,
+    "evicted": 0, "borrowtestfailed": 1, "reclaimed": 1,
 }
 # What each account holds in the end: its clerk's deposits, without what goes on to the next account, with what comes from the one before.
 OWNED = {account: ORDERS * (10 - (account + 1) + ((account - 1) % CLERKS + 1)) for account in range(CLERKS)}
@@ -49,15 +43,14 @@ def read_books(folder):
 
 def checks_of_run(bank, pool, picture, folder):
     """What a run leaves in a folder."""
-    done = subprocess.run([bank], cwd=folder, stdin=subprocess.DEVNULL, capture_output=True, text=True, timeout=120)
-    yield "the run", ((CRATE / "stdout").read_text(), "", 0), (done.stdout, done.stderr, done.returncode)
+    done = run(bank, cwd=folder)
+    yield "the run", ((CRATE / "stdout").read_bytes(), b"", 0), ended(done)
     if done.returncode:
         return
     journal, settings = folder / "bank.journal", folder / "settings.toml"
     settings.write_text(SETTINGS.search((CRATE / "src/main.rt").read_text())[1])
-    judged = subprocess.run([pool, "check", settings, journal], capture_output=True, text=True)
-    yield "the journal", (f"legal {len(journal.read_text().splitlines())}\n", "", 0), (judged.stdout, judged.stderr, judged.returncode)
-    told = subprocess.run([pool, "stats", journal], capture_output=True, text=True).stdout
+    yield "the journal", (f"legal {len(journal.read_text().splitlines())}\n", "", 0), ended(run(pool, "check", settings, journal, text=True))
+    told = run(pool, "stats", journal, text=True).stdout
     statistics = {name: int(number) for name, number in map(str.split, told.splitlines())}
     yield "the statistics", STATISTICS, {name: statistics.get(name) for name in STATISTICS}
     yield "the books", (BOOKS, OWNED, []), read_books(folder)

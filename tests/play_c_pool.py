@@ -33,8 +33,8 @@ import sys
 
 import changed_settings
 import openmetrics
-from play_library import INCLUDE, TOP, VALGRIND, compiled, compiler, header_runs, run
-from playing import differing, has, preloaded, scratch, side_by_side, skip, tell
+from play_library import INCLUDE, TOP, VALGRIND, compiled, compiler, header_runs
+from playing import differing, has, preloaded, run, scratch, side_by_side, skip, tell
 
 from install import POOL
 

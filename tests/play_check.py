@@ -18,8 +18,8 @@ import sys
 import time
 import unittest.mock
 
-from fake_kit import LONGEST, TOP, Repository, write
-from playing import play_checks, scratch
+from fake_kit import Repository, write
+from playing import LONGEST, TOP, play_checks, scratch
 
 import packages
 import sources

@@ -20,7 +20,6 @@ the journals: each under the name of its settings, the overview of the journal t
 import functools
 import pathlib
 import re
-import subprocess
 import sys
 
 from playing import NO_CARGO, TOP, has, play_checks, run, scratch, skip
@@ -82,7 +81,7 @@ class Place:
         if words.startswith("./try ") and not (TOP / "try").is_file():
             return "no such script"
         words = re.sub(r"^make ", "make --old-file=library ", re.sub(r"^(\./try|pool) ", "./pool ", words))
-        done = subprocess.run(["bash", "-c", words], cwd=self.folder, capture_output=True, text=True, stdin=subprocess.DEVNULL)
+        done = run("bash", "-c", words, cwd=self.folder, text=True)
         return f"status {done.returncode}: {done.stderr.strip()}" if done.returncode else None
 
     def fault_of_journal(self, segments):
@@ -91,7 +90,7 @@ class Place:
         names = [f"segment{number}" for number in range(len(segments))]
         for name, lines in zip(names, segments):
             (self.folder / name).write_text("".join(line + "\n" for line in lines))
-        done = subprocess.run(["./pool", "check", "defaults.toml", *names], cwd=self.folder, capture_output=True, text=True)
+        done = run("./pool", "check", "defaults.toml", *names, cwd=self.folder, text=True)
         count = sum(bool(ENTRY.match(line)) for lines in segments for line in lines)
         return None if done.stdout == f"legal {count}\n" else done.stdout + done.stderr
 
@@ -131,7 +130,7 @@ def is_kit(line):
 
 @functools.cache
 def kit():
-    return subprocess.run(["rt", "version"], capture_output=True, text=True).stdout.strip()
+    return run("rt", "version", text=True).stdout.strip()
 
 
 def is_drawn(picture, name, journal):

@@ -14,11 +14,10 @@ Prints what is wrong, and in the end the line 'N passed, M failed'.
 import os
 import pathlib
 import shutil
-import subprocess
 import sys
 import tempfile
 
-from playing import TOP, play_checks
+from playing import TOP, play_checks, run
 
 import sources
 
@@ -59,7 +58,7 @@ def unneeded(folder, names):
 def checks(room, lines, name):
     """What must hold of a copy."""
     kept, copy = room / "crates" / CRATE, room / "crates" / name
-    done = subprocess.run(["bash", "-ec", "\n".join(lines[:-2])], cwd=room, capture_output=True, text=True)
+    done = run("bash", "-ec", "\n".join(lines[:-2]), cwd=room, text=True)
     yield "the commands", (0, "", True), (done.returncode, done.stderr, copy.is_dir())
     yield "the line of crates.txt", (line_of(CRATE, room), False), (line_of(name, room), line_of(name, room) is None)
     yield "the files of the copy", True, files(copy, name) == files(kept, name)
@@ -68,7 +67,7 @@ def checks(room, lines, name):
     stale = [library for library in sources.below(CRATE) - {CRATE} if not sources.is_current(library)]
     yield "what is not built of its sources as they are", [], sorted(stale)
     if not stale:
-        done = subprocess.run(["bash", "-ec", lines[-1]], cwd=room, capture_output=True, text=True, env=os.environ | ONE_JOB)
+        done = run("bash", "-ec", lines[-1], cwd=room, text=True, env=os.environ | ONE_JOB)
         yield "the copy is proved", (0, True), (done.returncode and done.stderr, (room / "crates" / name / "out" / name).is_file())
         yield "no more is built", True, done.stderr.startswith(f"{name}: 0 of 1 crates, ") or done.stderr
 

@@ -20,11 +20,10 @@ import os
 import pathlib
 import re
 import shutil
-import subprocess
 import sys
 
 from play_library import EXAMPLES, FLAGS, INCLUDE, PLAIN_LIFE, TOP, compiler
-from playing import has, play_checks, scratch
+from playing import ended, has, play_checks, run, scratch
 
 SOURCES = TOP / "bindings/c/src"
 # The installed files by their paths, each with its source.
@@ -40,21 +39,10 @@ SHARED, LOADED, FOUND = f"libzuphinka.so.{VERSION}", f"libzuphinka.so.{VERSION.p
 # The libraries of the system that a program may need.
 SYSTEM = {"libc.so.6", "libpthread.so.0", "ld-linux-x86-64.so.2"}
 THREADS, ROUNDS = 4, 500
-# A run that takes longer hangs, in seconds.
-LONGEST = 600
-
-
-def run(*words, environment=None):
-    return subprocess.run(words, stdin=subprocess.DEVNULL, capture_output=True, timeout=LONGEST, env=environment)
 
 
 def install(prefix, library):
     return run(sys.executable, TOP / "tools/install.py", "--prefix", prefix, "--library", library)
-
-
-def outcome(done):
-    """What a run wrote, and its status."""
-    return done.stdout, done.stderr, done.returncode
 
 
 def declared():
@@ -96,7 +84,7 @@ def shared_library(lib):
 
 
 def told_by_pkg_config(prefix, *words):
-    return run("pkg-config", *words, environment=os.environ | {"PKG_CONFIG_PATH": str(prefix / "lib/pkgconfig")})
+    return run("pkg-config", *words, env=os.environ | {"PKG_CONFIG_PATH": str(prefix / "lib/pkgconfig")})
 
 
 # A way to link a program: its name, the flags, the shared libraries of ours that the program needs, and the environment in which it runs.
@@ -119,10 +107,10 @@ def program(name, folder, kind, words, wanted):
     source, built = folder / f"{name}.c", folder / name
     shutil.copy(EXAMPLES / source.name, source)
     made = run(compiler(), *FLAGS, "-o", built, source, *kind.flags)
-    yield f"{name} is compiled {kind.name}", (b"", b"", 0), outcome(made)
+    yield f"{name} is compiled {kind.name}", (b"", b"", 0), ended(made)
     if made.returncode == 0:
         yield f"what {name} needs, {kind.name}", kind.needs, [library for library in dynamic(built, "NEEDED") if library not in SYSTEM]
-        yield f"{name} {kind.name}", (wanted, b"", 0), outcome(run(built, *words, environment=kind.environment))
+        yield f"{name} {kind.name}", (wanted, b"", 0), ended(run(built, *words, env=kind.environment))
 
 
 def programs(prefix):
@@ -164,8 +152,8 @@ def compiled_by_make(out):
     words, names = ["examples", f"OUT={out}"], sorted(path.stem for path in EXAMPLES.glob("*.c") if path.stem != "postgres")
     yield "make examples", (0, b""), ((done := make(*words)).returncode, done.stderr)
     yield "the programs of make examples", sorted([*names, "installed"]), sorted(path.name for path in out.iterdir())
-    yield "first_loan by make", (b"", b"", 0), outcome(run(out / "first_loan"))
-    yield "plain_life by make", (PLAIN_LIFE, b"", 0), outcome(run(out / "plain_life", TOP / "examples/settings.toml"))
+    yield "first_loan by make", (b"", b"", 0), ended(run(out / "first_loan"))
+    yield "plain_life by make", (PLAIN_LIFE, b"", 0), ended(run(out / "plain_life", TOP / "examples/settings.toml"))
     yield "make examples, again", [], [line for line in make(*words).stdout.decode().splitlines() if not line.startswith("make: ")]
     yield "make clean", (0, False), (make("clean", f"OUT={out}").returncode, out.exists())
 
@@ -174,7 +162,7 @@ def by_make(prefix, folder):
     """The targets of the Makefile, whose install has the files of that under a prefix."""
     stage = folder / "stage"
     built = run("make", "--no-print-directory", "--dry-run", "-C", TOP / "bindings/c")
-    yield "make", (b"python3 ../../tools/build.py zuphinka\n", b"", 0), outcome(built)
+    yield "make", (b"python3 ../../tools/build.py zuphinka\n", b"", 0), ended(built)
     yield "make install", 0, make("install", "PREFIX=/usr", f"DESTDIR={stage}").returncode
     yield "the files of make install", sorted(f"usr/{name}" for name in files(prefix)), sorted(files(stage))
     descriptions = [(stage / f"usr/lib/pkgconfig/{name}.pc").read_text() for name in ("zuphinka", "zuphinka-static")]

@@ -29,9 +29,10 @@ import sys
 import zipfile
 
 import openmetrics
+import playing
 from changed_settings import files_of, judged
 from check_picture import differences
-from playing import TOP, has, play_checks, preloaded, scratch, skip, skip_all
+from playing import LONGEST, TOP, has, play_checks, preloaded, scratch, skip, skip_all
 
 import java
 from install import heap_of_kit, version
@@ -58,8 +59,6 @@ EXAMPLE_JARS = {"commons-dbcp2": "libcommons-dbcp2-java", "h2": "libh2-java"}
 BANK = r"1000 transfers, \d+ a second, 0 failed\n2000 euros in all\ncreated (1[7-9]|[2-9]\d), destroyed \1, idle 0, lent 0\n"
 # A heap that is full soon, and to the last byte.
 HEAP = ["-Xmx8m", "-XX:+UseSerialGC", "-XX:-UseTLAB", java.QUICK]
-# A run that takes longer hangs, in seconds.
-LONGEST = 120
 
 
 def play_with_java(what, found, *needs):
@@ -75,7 +74,7 @@ def play_with_java(what, found, *needs):
 def run_java(path, *words, options=(), variables={}, longest=LONGEST):
     """Runs a class with its words, over a class path."""
     command = [java.jdk() / "bin/java", "-XX:-UsePerfData", *options, "-cp", os.pathsep.join(map(str, path)), *map(str, words)]
-    return subprocess.run(command, stdout=subprocess.PIPE, stderr=subprocess.STDOUT, text=True, timeout=longest, env=os.environ | variables)
+    return playing.run(*command, stderr=subprocess.STDOUT, text=True, timeout=longest, env=os.environ | variables)
 
 
 def run(jar, classes, *words, options=(), variables={}):
@@ -106,7 +105,7 @@ def codes():
 
 def legal(pool, settings, *journals):
     """What is wanted of a check of journals, and what came of it."""
-    done = subprocess.run([pool, "check", settings, *journals], capture_output=True, text=True)
+    done = playing.run(pool, "check", settings, *journals, text=True)
     return "legal", done.stdout.partition(" ")[0] or done.stderr
 
 
@@ -216,8 +215,7 @@ def portable(jar):
     oldest = int(re.search(r"a JDK from version (\d+) on", (java.JAVA / "README.md").read_text())[1])
     with zipfile.ZipFile(jar) as packed, scratch() as folder:
         versions = {int.from_bytes(packed.read(name)[6:8], "big") for name in packed.namelist() if name.endswith(".class")}
-        words = ["ldd", packed.extract("libzuphinka_jni.so", folder)]
-        loaded = subprocess.run(words, capture_output=True, text=True).stdout
+        loaded = playing.run("ldd", packed.extract("libzuphinka_jni.so", folder), text=True).stdout
     yield "the version of the classes", {44 + oldest}, versions
     names = set(re.findall(r"^\t(?:/\S*/)?(\S+)", loaded, flags=re.MULTILINE))
     yield "what the native library loads", {"linux-vdso.so.1", "libc.so.6", "ld-linux-x86-64.so.2"}, names
@@ -240,7 +238,7 @@ def documentation(folder):
     sources = sorted(path for place in (java.JAVA, java.DROP_IN) for path in (place / "src").rglob("*.java"))
     words = [f"-J{java.QUICK}", "--release", java.RELEASE, "-Xdoclint:all/protected", "-Xmaxwarns", "1000", "-d", folder]
     words += ["-cp", java.commons_pool(), *sources]
-    done = subprocess.run([java.jdk() / "bin/javac", *words], capture_output=True, text=True)
+    done = playing.run(java.jdk() / "bin/javac", *words, text=True)
     yield "the documentation", ("", 0), (done.stderr, done.returncode)
     public = [source for source in sources if re.search(r"^public ", source.read_text(), flags=re.MULTILINE)]
     yield "sources with public items", True, bool(public)
@@ -252,8 +250,7 @@ def example(name, report, pool, folder):
     pages = (page.read_text() for page in (TOP / "README.md", java.JAVA / "README.md"))
     commands = sorted({command for page in pages for command in re.findall(rf"^    (java .*/{name}\.java )", page, flags=re.MULTILINE)})
     yield f"{name}: its commands", 1, len(commands)
-    words = ["bash", "-ec", f"{commands[0]}{shlex.quote(str(folder))}"]
-    done = subprocess.run(words, cwd=TOP, capture_output=True, text=True, timeout=LONGEST)
+    done = playing.run("bash", "-ec", f"{commands[0]}{shlex.quote(str(folder))}", cwd=TOP, text=True)
     yield f"{name}: what it prints", True, re.fullmatch(report, done.stdout) is not None or done.stdout + done.stderr
     yield f"{name}: its journal", *legal(pool, folder / "settings.toml", *sorted(folder.glob("segment-*")))
 

@@ -26,8 +26,6 @@ SOURCES = [TOP / f"tests/java/{name}.java" for name in ("Promises", "EitherPool"
 RUNS, MILLIS = 150, 120
 # For how many milliseconds a run waits for what may never end: by then the pool for Java has failed, and of Commons Pool that is noted.
 LONGEST = {"zuphinka": 60_000, "commons-pool": 250}
-# A run of all takes longer than that only if it hangs, in seconds.
-LONGEST_IN_ALL = 600
 
 
 def commons_pool_version():
@@ -39,7 +37,7 @@ def commons_pool_version():
 
 def played(pool, path):
     """Plays all runs of a pool, and prints what that wrote."""
-    done = run_java(path, "Promises", pool, RUNS, MILLIS, LONGEST[pool], longest=LONGEST_IN_ALL)
+    done = run_java(path, "Promises", pool, RUNS, MILLIS, LONGEST[pool])
     print(done.stdout, end="")
     return done
 

@@ -28,22 +28,16 @@ Prints what differs, and in the end the line 'N passed, M failed'.
 import itertools
 import pathlib
 import re
-import subprocess
 import sys
 
-import playing
 from argument_rules import version
 from case_files import unpacked, wanted_of
 from changed_settings import EMPTY_BASE as EMPTY
 from play_commands import TOP, blocks, commands
 from play_damaged import Chance
 from play_segments import THREE, damaged_segments, play_trials, segmented
-from playing import differing, preloaded, refusals, scratch, write_files
+from playing import differing, ended, preloaded, refusals, run, scratch, write_files
 from pool_model import LineFault, Pool, read_entry, settings_of, verdict_of_segments, words_of
-
-def run(*command):
-    done = playing.run(*command)
-    return done.stdout, done.stderr, done.returncode
 
 
 def base_lines(segment):
@@ -67,7 +61,7 @@ def reached_by(judge, settings, paths, chance):
     """What is written of each segment, judged in an order by chance, and nothing where it isn't legal."""
     reached = [None] * len(paths)
     for index in sorted(range(len(paths)), key=lambda _: chance.below(2**32)):
-        written, told, status = run(judge, settings, paths[index])
+        written, told, status = ended(run(judge, settings, paths[index]))
         if (status == 0) != (told == b"") or (status and written):
             raise ValueError(f"{paths[index]}: status {status}, wrote {written}, told {told}")
         reached[index] = written if status == 0 else None
@@ -104,13 +98,13 @@ def of_change(judge, program, case, places):
         write_files(room, {"settings.toml": case.settings, f"settings-{position:020}.toml": changed, first: before, second: after})
         (room / "reached").mkdir()
         (room / "judge").symlink_to(pathlib.Path(judge).resolve())
-        found = differing(f"{case.name}, whose settings change", (b"", b"", 0), playing.run("sh", "-c", f"PATH=.:$PATH; {shell_of_page()[-1]}", cwd=room))
+        found = differing(f"{case.name}, whose settings change", (b"", b"", 0), run("sh", "-c", f"PATH=.:$PATH; {shell_of_page()[-1]}", cwd=room))
         reached = [(room / "reached" / segment).read_bytes() for segment in (first, second)]
         check = program, "check", *(room / file for file in ("settings.toml", first, second))
-        found += differing(f"{case.name}, checked with both settings", (b"legal %d\n" % pool.position, b"", 0), playing.run(*check))
+        found += differing(f"{case.name}, checked with both settings", (b"legal %d\n" % pool.position, b"", 0), run(*check))
         (room / f"settings-{position:020}.toml").unlink()
         wanted = wanted_of(verdict_of_segments(settings_of(case.settings.decode()), [before, after]))
-        found += differing(f"{case.name}, checked with the first settings", wanted, playing.run(*check))
+        found += differing(f"{case.name}, checked with the first settings", wanted, run(*check))
     return found + [f"{case.name}, whose settings change: reached {reached}"] * (reached != [due, b"".join(pool.base())])
 
 
@@ -133,14 +127,14 @@ def of_beside(program):
         for text, (output, told, status) in BESIDE.items():
             write_files(name, {"settings.toml": b"", "segment-0": first, "segment-1": second, "settings-1.toml": text})
             wanted = output, told.format(paths[-1]).encode(), status
-            found += differing(f"{text} beside a segment", wanted, playing.run(program, "check", *paths))
+            found += differing(f"{text} beside a segment", wanted, run(program, "check", *paths))
         write_files(name, {"settings-0.toml": b"", "settings-1.toml": b"", "settings.toml": b"maxTotal = 0\n"})
-        found += differing("settings beside the first segment", (b"legal 2\n", b"", 0), playing.run(program, "check", *paths))
+        found += differing("settings beside the first segment", (b"legal 2\n", b"", 0), run(program, "check", *paths))
         loop = name / "settings-1.toml"
         loop.unlink()
         loop.symlink_to(loop.name)
         wanted = b"", f"pool: cannot open the settings beside {paths[-1]}\n".encode(), 3
-        found += differing("a file beside a segment that leads to itself", wanted, playing.run(program, "check", *paths))
+        found += differing("a file beside a segment that leads to itself", wanted, run(program, "check", *paths))
     return found
 
 
@@ -187,7 +181,7 @@ def of_commands(judge, script, job, case):
         for index, text in enumerate(texts_of(case)):
             bare = index == 0 and not text.startswith(b"pool-journal")
             (room / f"archived/segment-{index:04}").write_bytes(EMPTY * bare + text)
-        done = subprocess.run(["bash", "-c", script], cwd=room, capture_output=True, timeout=60, stdin=subprocess.DEVNULL)
+        done = run("bash", "-c", script, cwd=room)
     wanted = b"one legal journal\n" if is_legal(case) else b"not legal from archived/segment-"
     is_right = (done.returncode == 0) == is_legal(case) and done.stdout.startswith(wanted)
     return [f"{case.name}, by the commands of the page: legal is {is_legal(case)}, {done}"] * (not is_right)
@@ -243,13 +237,14 @@ def uses(room, settings):
 
 def of_uses(judge, settings):
     with scratch() as room:
-        wrong = [f"{words}: {ended}" for words, told, status in uses(room, settings) if (ended := run(judge, *words)) != (b"", told, status)]
-    wrong += [f"{word}: {run(judge, word)}" for word in ("--version", "-V") if run(judge, word) != (version().replace(b"pool", b"judge"), b"", 0)]
+        wrong = [f"{words}: {found}" for words, told, status in uses(room, settings) if (found := ended(run(judge, *words))) != (b"", told, status)]
+    for word in "--version", "-V":
+        wrong += differing(word, (version().replace(b"pool", b"judge"), b"", 0), run(judge, word))
     for word in "--help", "-h":
         # The uses of the program, each in some words.
-        output, *ended = run(judge, word)
+        output, *others = ended(run(judge, word))
         named = [line.partition("  ")[0] for line in output.decode().splitlines() if line.startswith("judge ")]
-        wrong += [f"{word}: {output}"] * ((named, ended) != (["judge SETTINGS SEGMENT", "judge --help", "judge --version"], [b"", 0]))
+        wrong += [f"{word}: {output}"] * ((named, others) != (["judge SETTINGS SEGMENT", "judge --help", "judge --version"], [b"", 0]))
     return wrong
 
 
@@ -257,7 +252,7 @@ def of_refused(command, wanted, library, mark):
     """What differs where each allocation is refused in turn, and where none is. The first cannot be done without."""
     found = []
     for number, done in refusals(library, mark, *command):
-        is_whole = (done.stdout, done.stderr, done.returncode) == (wanted, b"", 0)
+        is_whole = ended(done) == (wanted, b"", 0)
         is_refused = number and (done.stdout, done.returncode) == (b"", 3) and re.fullmatch(rb"judge: .*out of memory\n", done.stderr)
         if not is_refused and (not is_whole or number == 1):
             found.append(f"{command[2]}, allocation {number}: {done}")

@@ -40,12 +40,11 @@ import shutil
 import subprocess
 import sys
 
-import playing
 from case_files import script_of
 from many_objects import NO_LIMITS, segments_of
 from play_cases import wanted_of_script, wanted_of_settings
 from play_program import PLAIN_LIFE
-from playing import TOP, differing, has, play_unpacked, scratch, skip, tell, write_files
+from playing import TOP, differing, has, play_unpacked, run, scratch, skip, tell, write_files
 from pool_model import cut_at, settings_of
 
 from install import INCLUDE, heap_of_kit
@@ -63,8 +62,6 @@ CROWDS = (60, 1_024, 5_000)
 # For so many calls that wait a pool has memory from the start.
 TICKETS = 1_024
 CROWD_TEXT = re.compile(rb"(\d+) wait, (\d+) ended, allocations: (\d+), (\d+) of the first 1024, (\d+) while they are served, (\d+) by 1000 pairs\n")
-# A run that takes longer hangs, in seconds.
-LONGEST = 600
 LONGEST_SETTINGS = 1_048_576
 VALGRIND = ["valgrind", "--quiet", "--error-exitcode=9", "--leak-check=full", "--show-leak-kinds=all", "--errors-for-leak-kinds=all"]
 
@@ -83,10 +80,6 @@ def compiled(name, library, folder, flags, sources=EXAMPLES):
     program.parent.mkdir(exist_ok=True)
     subprocess.run([compiler(), *FLAGS, "-I", INCLUDE, "-o", program, sources / f"{name}.c", *flags, library, heap_of_kit()], check=True)
     return program
-
-
-def run(*words, **options):
-    return playing.run(*words, timeout=LONGEST, **options)
 
 
 def plays(cases):

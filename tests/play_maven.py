@@ -20,7 +20,7 @@ import sys
 import zipfile
 
 from play_java import play_with_java
-from playing import NAMED, TOP, has, scratch
+from playing import NAMED, TOP, has, run, scratch
 
 import java
 from install import heap_of_kit, version
@@ -47,8 +47,6 @@ USER = """<project xmlns="http://maven.apache.org/POM/4.0.0">
 """
 # What Maven writes to a terminal, and else too.
 COLOURS = re.compile(r"\x1b\[\d*m")
-# A build that takes longer hangs, in seconds.
-LONGEST = 300
 
 
 class Maven:
@@ -62,8 +60,7 @@ class Maven:
         """Runs Maven on a project, and returns its status and its output."""
         options = ["--offline", "--batch-mode", "--quiet", f"-Dmaven.repo.local={self.repository}", f"-Dzuphinka.build={self.folder / 'build'}"]
         environment = os.environ | {"JAVA_HOME": str(java.jdk())}
-        command = ["mvn", *options, "-f", project, *map(str, words)]
-        done = subprocess.run(command, stdout=subprocess.PIPE, stderr=subprocess.STDOUT, text=True, env=environment, timeout=LONGEST)
+        done = run("mvn", *options, "-f", project, *map(str, words), stderr=subprocess.STDOUT, text=True, env=environment)
         return done.returncode, COLOURS.sub("", done.stdout)
 
 

@@ -19,13 +19,13 @@ import os
 import pathlib
 import re
 import shutil
-import subprocess
 import sys
 import tarfile
 
+import playing
 from play_java import BANK, EXAMPLE_JARS, java, portable
 from play_library import PLAIN_LIFE, TOP
-from playing import NO_CARGO, has, play_checks, scratch, skip, stored_journal
+from playing import NO_CARGO, ended, has, play_checks, scratch, skip, stored_journal
 
 import sources
 from contest import runs_cargo
@@ -33,8 +33,6 @@ from contest import runs_cargo
 # The examples in Rust and Java: four servers with fifty requests each, of which each tenth breaks its connection.
 ANSWERED = 4 * 50 * 9 // 10
 THREADS, ROUNDS = 4, 500
-# A run that takes longer hangs, in seconds.
-LONGEST = 1200
 LIBRARIES = ("lib/libzuphinka.a", "lib/libzuphinka.so", "rust/zuphinka/lib/libzuphinka.a")
 TAMPERED = (*LIBRARIES, "bin/pool", "include/zuphinka.h", "rust/zuphinka/src/lib.rs", "LICENSE")
 JAR = "java/zuphinka.jar"
@@ -61,19 +59,18 @@ def missing_for_java():
 def run(*words, folder):
     environment = {name: value for name, value in os.environ.items() if not name.startswith(("ZUPHINKA_", "CARGO_TARGET"))}
     environment |= {"PATH": path_without_rt(), "CARGO_NET_OFFLINE": "true"}
-    return subprocess.run(words, cwd=folder, env=environment, stdin=subprocess.DEVNULL, capture_output=True, timeout=LONGEST)
+    return playing.run(*words, cwd=folder, env=environment)
 
 
 def shell(line, folder):
-    done = run("bash", "-c", line, folder=folder)
-    return done.stdout, done.stderr, done.returncode
+    return ended(run("bash", "-c", line, folder=folder))
 
 
 def release(clone, folder, *words, environment=None):
     """Makes an archive, without Java if something is missing for that here."""
     command = [sys.executable, TOP / "tools/release.py", "--programs", clone, "--output", folder, *words]
     command += ["--without-java"] * (environment is None and missing_for_java() is not None)
-    return subprocess.run(command, stdin=subprocess.DEVNULL, capture_output=True, text=True, timeout=LONGEST, env=environment)
+    return playing.run(*command, text=True, env=environment)
 
 
 def without_java(clone, folder):
@@ -192,10 +189,7 @@ def java_part(top):
         return
     yield from portable(top / JAR)
     section = (top / "README.md").read_text().partition("\n## Java\n")[2]
-    reports = {
-        "servers": rb"%d requests were answered over \d+ connections\n" % ANSWERED,
-        "bank": BANK.encode(),
-    }
+    reports = {"servers": rb"%d requests were answered over \d+ connections\n" % ANSWERED, "bank": BANK.encode()}
     packages = {"servers": [], "bank": EXAMPLE_JARS.values()}
     for block, folder in zip(BLOCK.findall(section), reports, strict=True):
         if not java.DEBIAN_JAR.is_file():

@@ -9,10 +9,9 @@ Prints each thing that differs, and in the end the line 'N passed, M failed'.
 
 import os
 import shutil
-import subprocess
 import sys
 
-from playing import TOP, play_checks, scratch, skip
+from playing import TOP, play_checks, run, scratch, skip
 
 TRY = TOP / "try"
 RT = """#!/bin/sh
@@ -38,13 +37,11 @@ WORDS = [
 ]
 GIVEN = [("", True), ("run s /dev/stdin", True), ("stats /proc/self/fd/0", True), ("run s t", False)]
 NOTHING_PROVED = "nothing is proved"
-# A run that takes longer hangs, in seconds.
-LONGEST = 1200
 
 
 def play(words, folder, path, given="", status=0):
     environment = {**os.environ, "PATH": path, "STATUS": str(status), "HERE": str(folder)}
-    return subprocess.run([TRY, *words], cwd=folder, env=environment, input=given, capture_output=True, text=True, timeout=LONGEST)
+    return run(TRY, *words, cwd=folder, env=environment, input=given, text=True)
 
 
 def with_other_rt(folder):

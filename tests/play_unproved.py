@@ -13,20 +13,17 @@ Prints each case that differs, and in the end the line 'N passed, M failed'.
 import pathlib
 import re
 import shutil
-import subprocess
 import sys
 
 from case_files import unpacked
 from play_cases import TEXT, plays
-from playing import TOP, play_checks, scratch, skip_all
+from playing import TOP, play_checks, run, scratch, skip_all
 
 CASE = re.compile(r"^case=(\S+) run=(\S+)(?: status=(\d+))?.*? output=(\S+) proved=no$", flags=re.MULTILINE)
 # What `rt try` says of a run that ended and wrote what is wanted.
 RIGHT = "ended", "expected"
 # The commands of the program that are played.
 COMMANDS = ("run", "check")
-# A run that takes longer hangs, in seconds.
-LONGEST = 1200
 
 
 def lay_play(folder, number, arguments, output):
@@ -44,8 +41,7 @@ def lay_play(folder, number, arguments, output):
 def played(folder, data):
     """What `rt try` says of the plays in a folder: by number, how it ended and its status."""
     words = [word for name, file in data.items() for word in ("--data", f"{name}={file}")]
-    command = ["rt", "try", *words, "--cases", folder]
-    done = subprocess.run(command, cwd=TOP / "crates/pool", stdin=subprocess.DEVNULL, capture_output=True, text=True, timeout=LONGEST)
+    done = run("rt", "try", *words, "--cases", folder, cwd=TOP / "crates/pool", text=True)
     found = {number: ((end, output), status) for number, end, status, output in CASE.findall(done.stderr)}
     if not found:
         print(done.stdout + done.stderr)

@@ -20,14 +20,21 @@ NAMED = {package.name: package for package in PACKAGES}
 NO_CARGO = "no cargo runs here: rustup.rs has one, and so has Debian's package cargo-web"
 KINDS = ("output", "standard error", "status")
 TESTS, COMPILER = TOP / "tests", os.environ.get("CC", "cc")
+# A run that takes longer hangs, in seconds.
+LONGEST = 1_200
 # How much of a difference is printed, and how much of what is the same before it, in characters.
 MOST_PRINTED, BEFORE = 2_000, 100
 
 
 def run(*words, **options):
-    """Runs a program to its end, with nothing on standard input if none is given. A run that takes longer than a minute hangs."""
+    """Runs a program to its end, with nothing on standard input if none is given."""
     streams = dict.fromkeys(("stdout", "stderr"), subprocess.PIPE) | ({} if "input" in options else {"stdin": subprocess.DEVNULL})
-    return subprocess.run(words, **{**streams, "timeout": 60, **options})
+    return subprocess.run(words, **{**streams, "timeout": LONGEST, **options})
+
+
+def ended(done):
+    """What a run wrote to standard output and to standard error, and its status."""
+    return done.stdout, done.stderr, done.returncode
 
 
 @contextlib.contextmanager
@@ -103,7 +110,7 @@ def from_difference(want, have):
 
 def differing(name, wanted, done):
     """What is wanted of a run and what it gave, for each of the streams and the status that differ."""
-    pairs = zip(KINDS, wanted, (done.stdout, done.stderr, done.returncode))
+    pairs = zip(KINDS, wanted, ended(done))
     found = [(kind, *from_difference(want, have)) for kind, want, have in pairs if want != have]
     return [f"{name}: {kind}: wanted {want!r:.{MOST_PRINTED}}, got {have!r:.{MOST_PRINTED}}" for kind, want, have in found]
 
@@ -113,7 +120,7 @@ def stored_journal(pool, folder):
     entries."""
     segments = sorted(folder.glob("segment-*"))
     entries = sum(path.read_bytes().count(b" = ") for path in segments)
-    done = run(pool, "check", folder / "settings.toml", *segments, timeout=600)
+    done = run(pool, "check", folder / "settings.toml", *segments)
     return (b"legal %d\n" % entries, b"", True), (done.stdout, done.stderr, entries > 0)
 
 

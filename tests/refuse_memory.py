@@ -61,9 +61,9 @@ def calls_in(error):
 
 
 def ended(path, variables):
-    """What came of a run. One that does not end has no status."""
+    """What came of a run. One that does not end within a minute has no status."""
     try:
-        return run(path, env=os.environ | variables)
+        return run(path, env=os.environ | variables, timeout=60)
     except subprocess.TimeoutExpired:
         return subprocess.CompletedProcess([path], None, b"", b"")
 
