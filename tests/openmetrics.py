@@ -14,10 +14,9 @@ Prints what differs, and in the end the line 'N passed, M failed'.
 
 import re
 import shutil
-import subprocess
 import sys
 
-from playing import play_checks, scratch
+from playing import play_checks, run, scratch
 
 END = "# EOF\n"
 TEXT = r'(?:[^"\\\n]|\\[\\"n])'
@@ -107,8 +106,7 @@ def need_promtool(text):
     with scratch() as folder:
         timed = folder / "text"
         timed.write_text(TIMELESS.sub(r"\1 1700000000", text))
-        words = [PROMTOOL, "tsdb", "create-blocks-from", "openmetrics", timed, folder / "blocks"]
-        done = subprocess.run(words, stdin=subprocess.DEVNULL, capture_output=True, text=True)
+        done = run(PROMTOOL, "tsdb", "create-blocks-from", "openmetrics", timed, folder / "blocks", text=True)
     need(done.returncode == 0, f"promtool: {done.stderr.strip()}")
 
 
@@ -158,45 +156,36 @@ def right_text(*pools):
 RIGHT = "".join(right_text(r"a\"b\\c\nd", "x"))
 IDLE = 'zuphinka_idle_objects{pool="x"} -3\n'
 IDLE_TYPE = "# TYPE zuphinka_idle_objects gauge\n"
-# Mistakes: what stands in the text, and what in its place is refused.
-MISTAKES = [
-    ("# EOF\n", ""),
-    ("# EOF\n", "# EOF"),
-    ("# EOF\n", "# EOF\n# EOF\n"),
-    ("# EOF\n", IDLE + "# EOF\n"),
-    (IDLE, ""),
-    *((IDLE, IDLE + more) for more in ("\n", IDLE, "# HELP zuphinka_idle_objects Again.\n", "# a comment\n", "cars 4\n", IDLE.replace('"x"', '"y"'))),
-    *((IDLE, IDLE.replace(" -3\n", other)) for other in ("  -3\n", " -3\r\n", " four\n", " 3e1\n", " -3 1700000000\n")),
-    (IDLE, IDLE.replace("objects", "objects_total")),
-    (IDLE, IDLE.replace("idle", "other")),
-    (IDLE_TYPE, ""),
-    (IDLE_TYPE, IDLE_TYPE * 2),
-    (IDLE_TYPE, IDLE_TYPE.replace("gauge", "heap")),
-    (r"in \\ and", r"in \ and"),
-    (r"a\"b", 'a"b'),
-    (r"\\c", r"\c"),
-    (r"\nd", r"\td"),
-    (r"\nd", "\nd"),
-    (r'd"}', r'd",road="e"}'),
-    (r'd"}', r'd",}'),
-    (r'd"}', r'd\"}'),
-    ('{pool="a', '{1pool="a'),
-    ("borrows_total", "borrows"),
-    ('borrows_total{pool="x"} 0', 'borrows_total{pool="x"} -1'),
-    ("# TYPE zuphinka_wait_seconds", IDLE_TYPE + "# TYPE zuphinka_wait_seconds"),
-    ("wait_seconds seconds", "wait_seconds minutes"),
-    *(('le="0.5"', other) for other in ('le="2.0"', 'le="1.0"', 'le="half"')),
-    (',le="0.5"', ""),
-    ('le="+Inf"', 'le="900.0"'),
-    ('le="+Inf"} 3', 'le="+Inf"} 2'),
-    ('le="+Inf"} 3', 'le="+Inf"} 3.0'),
-    ('le="0.5"} 1', 'le="0.5"} 2'),
-    ('wait_seconds_count{pool="x"}', 'wait_seconds_count{pool="y"}'),
-    ('zuphinka_wait_seconds_count{pool="x"} 3\n', ""),
-    ('zuphinka_wait_seconds_sum{pool="x"} 7.25\n', ""),
-    ('wait_seconds_sum{pool="x"} 7.25', 'wait_seconds_sum{pool="x"} -7.25'),
-    (r'pool="a\"b\\c\nd"', 'pool="x"'),
-]
+# Mistakes: what stands in the text, and each text in its place that is refused.
+MISTAKES = {
+    END: ["", "# EOF", END * 2, IDLE + END],
+    IDLE: [
+        *("", IDLE + "\n", IDLE * 2, IDLE + "# HELP zuphinka_idle_objects Again.\n", IDLE + "# a comment\n", IDLE + "cars 4\n"),
+        *(IDLE + IDLE.replace('"x"', '"y"'), IDLE.replace("objects", "objects_total"), IDLE.replace("idle", "other")),
+        *(IDLE.replace(" -3\n", other) for other in ("  -3\n", " -3\r\n", " four\n", " 3e1\n", " -3 1700000000\n")),
+    ],
+    IDLE_TYPE: ["", IDLE_TYPE * 2, IDLE_TYPE.replace("gauge", "heap")],
+    r"in \\ and": [r"in \ and"],
+    r"a\"b": ['a"b'],
+    r"\\c": [r"\c"],
+    r"\nd": [r"\td", "\nd"],
+    r'd"}': [r'd",road="e"}', r'd",}', r'd\"}'],
+    '{pool="a': ['{1pool="a'],
+    "borrows_total": ["borrows"],
+    'borrows_total{pool="x"} 0': ['borrows_total{pool="x"} -1'],
+    "# TYPE zuphinka_wait_seconds": [IDLE_TYPE + "# TYPE zuphinka_wait_seconds"],
+    "wait_seconds seconds": ["wait_seconds minutes"],
+    'le="0.5"': ['le="2.0"', 'le="1.0"', 'le="half"'],
+    ',le="0.5"': [""],
+    'le="+Inf"': ['le="900.0"'],
+    'le="+Inf"} 3': ['le="+Inf"} 2', 'le="+Inf"} 3.0'],
+    'le="0.5"} 1': ['le="0.5"} 2'],
+    'wait_seconds_count{pool="x"}': ['wait_seconds_count{pool="y"}'],
+    'zuphinka_wait_seconds_count{pool="x"} 3\n': [""],
+    'zuphinka_wait_seconds_sum{pool="x"} 7.25\n': [""],
+    'wait_seconds_sum{pool="x"} 7.25': ['wait_seconds_sum{pool="x"} -7.25'],
+    r'pool="a\"b\\c\nd"': ['pool="x"'],
+}
 
 
 def checks():
@@ -206,7 +195,7 @@ def checks():
     for pool, numbers in pools.items():
         yield f"numbers of {pool!r}", wanted, {name: numbers[name] for name in wanted}
     yield "a text of no pool", {}, pools_of("".join(right_text()))
-    for old, new in MISTAKES:
+    for old, new in ((old, new) for old, others in MISTAKES.items() for new in others):
         yield f"{old!r} is there", True, old in RIGHT
         yield f"{new!r} in place of {old!r} is refused", True, fault_of(pools_of, RIGHT.replace(old, new)) != ""
     yield "a text of nothing is not that of pools", True, fault_of(pools_of, END) != ""

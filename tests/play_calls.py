@@ -51,8 +51,7 @@ OF_FACTORY = "make-failed create-test-failed passivate-failed"
 ENDS = {
     "borrow": "lent closed exhausted timed-out make-failed create-test-failed activate-failed borrow-test-failed",
     "return": "parked destroyed gone not-lent",
-    "invalidate": "destroyed gone not-lent",
-    "detach": "destroyed gone not-lent",
+    **dict.fromkeys(("invalidate", "detach"), "destroyed gone not-lent"),
     "touch": "noted gone not-lent",
     "add": f"parked closed no-place destroyed {OF_FACTORY}",
     "fill": f"complete {OF_FACTORY}",
@@ -80,25 +79,18 @@ WANTED.update(f"{kind} {end}" for kind, ends in ENDS.items() for end in [*ends.s
 # The calls that are made most. The others are given up, and fail in the factory, so many times as likely; and at most how likely.
 FREQUENT, RARE = ("borrow", "return"), 5
 MOST_LIKELY = 0.4
-# The first lines of a script, and scripts with an error, each with what is told of it.
+# The first lines of a script, and scripts with an error, by what is told of them.
 POOL = "\npool 1 no no no no\n"
 REFUSED = {
-    "maxTotal = true\n" + POOL: "settings: wrong type maxTotal",
-    "\npool 1 no no no\n": "line 2: not the line of a pool",
-    "\npool 1 no no no maybe\n": "line 2: not the line of a pool",
-    "\npool -1 no no no no\n": "line 2: bad number",
-    POOL + "lend 0 0 0\n": "line 3: not a command",
-    POOL + "borrow 0 0\n": "line 3: not a command",
-    POOL + "return 0 0 0\n": "line 3: not a command",
-    POOL + "close 0 0 0 0 0\n": "line 3: not a command",
-    POOL + "touch 0 0 0 first\n": "line 3: bad number",
-    POOL + "borrow 16 0 0\n": "line 3: no such slot",
-    POOL + "borrow 0 4294967296 0\n": "line 3: bad number",
-    POOL + "borrow 0 0 18446744073709551616\n": "line 3: bad number",
-    POOL + "report 0 0 0 go-on\n": "line 3: no call in the slot",
-    POOL + "borrow 0 0 0\nreport 0 0 0 lost\n": "line 4: not a command",
-    POOL + "borrow 0 0 0\nreport 0 0 0 made\n": "line 4: not a command",
-    POOL + "borrow 0 0 0\nborrow 0 0 0\n": "line 4: the slot is taken",
+    "settings: wrong type maxTotal": ["maxTotal = true\n" + POOL],
+    "line 2: not the line of a pool": ["\npool 1 no no no\n", "\npool 1 no no no maybe\n"],
+    "line 2: bad number": ["\npool -1 no no no no\n"],
+    "line 3: not a command": [POOL + "lend 0 0 0\n", POOL + "borrow 0 0\n", POOL + "return 0 0 0\n", POOL + "close 0 0 0 0 0\n"],
+    "line 3: bad number": [POOL + "touch 0 0 0 first\n", POOL + "borrow 0 4294967296 0\n", POOL + "borrow 0 0 18446744073709551616\n"],
+    "line 3: no such slot": [POOL + "borrow 16 0 0\n"],
+    "line 3: no call in the slot": [POOL + "report 0 0 0 go-on\n"],
+    "line 4: not a command": [POOL + "borrow 0 0 0\nreport 0 0 0 lost\n", POOL + "borrow 0 0 0\nreport 0 0 0 made\n"],
+    "line 4: the slot is taken": [POOL + "borrow 0 0 0\nborrow 0 0 0\n"],
 }
 
 
@@ -449,7 +441,7 @@ def play_seed(seed, asked):
 
 def refused(path):
     """What differs at each script with an error."""
-    for script, told in REFUSED.items():
+    for told, script in ((told, script) for told, scripts in REFUSED.items() for script in scripts):
         done = run(path, input=script.encode())
         yield differing(repr(script), (done.stdout, f"test_calls: {told}\n".encode(), 2), done)
 

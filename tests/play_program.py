@@ -97,22 +97,11 @@ NO_NUMBERS = ["", " ", "x", "01", "00", "+1", "1.0", "1e3", "0x1", "1_000", " 1"
 NO_WORKERS = ["4294967296", "18446744073709551615"]
 NOT_TEXT = [[b"\xff"], [b"run", b"\xff", b"plain.script"], [b"run", b"defaults.toml", b"\xc3"], [b"check", b"\xe2\x82", b"plain.journal"]]
 SETTINGS_FAULTS = {
-    "too_long.toml": "settings: too long",
-    "not_utf8.toml": "settings: not TOML",
-    "not_toml.toml": "settings: not TOML",
-    "unknown_key.toml": "settings: unknown key maxTotl",
-    "table_key.toml": "settings: unknown key abandoned.none",
-    "wrong_type.toml": "settings: wrong type maxTotal",
-    "key_of_two_lines.toml": "settings: unknown key a\\nb\\u001B\\\\",
-    "first_fault.toml": "settings: wrong type lifo",
-    "out_of_range.toml": "settings: out of range minIdle",
-    "missing.toml": "cannot open missing.toml",
-    "": "cannot open ",
-    "-": "cannot open -",
-    "missing/defaults.toml": "cannot open missing/defaults.toml",
-    "empty/defaults.toml": "cannot open empty/defaults.toml",
-    "n" * 300: "cannot open " + "n" * 300,
-    "folder": "read failed",
+    "too_long.toml": "settings: too long", "not_utf8.toml": "settings: not TOML", "not_toml.toml": "settings: not TOML",
+    "unknown_key.toml": "settings: unknown key maxTotl", "table_key.toml": "settings: unknown key abandoned.none",
+    "wrong_type.toml": "settings: wrong type maxTotal", "key_of_two_lines.toml": "settings: unknown key a\\nb\\u001B\\\\",
+    "first_fault.toml": "settings: wrong type lifo", "out_of_range.toml": "settings: out of range minIdle", "folder": "read failed",
+    **{path: f"cannot open {path}" for path in ("missing.toml", "", "-", "missing/defaults.toml", "empty/defaults.toml", "n" * 300)},
 }
 LINE_FAULTS = {"long_line": "line too long", "not_a_line": "not a line", "bad_number": "bad number", "truncated": "truncated"}
 

@@ -30,21 +30,10 @@ NOTHING = re.compile(b"")
 TOLD = re.compile(rb"(\rpool: \d+ MB)+" + re.escape(WIPED))
 SEGMENT = b"pool-journal 2 4 1 open none 0 0 0 1\n0 idle 3 16 11 11 old\n0 20 borrow 20 = take 0\n"
 FILES = {
-    "defaults.toml": b"",
-    "two.toml": b"journalLimit = 2\n",
-    "bad.toml": b"maxTotal = 1\n\nminIdle =\n",
-    "key.toml": b"maxTotal = 1\nmaxTotl = 8\n",
-    "bytes.toml": b"lifo = true # \xff\n",
-    "script": b"0 0 borrow 0\n",
-    "journal": PLAIN_LIFE,
-    "segment": SEGMENT,
-    "joined": PLAIN_LIFE + SEGMENT,
-    "returns": PLAIN_LIFE.replace(b"\n", b"\r\n"),
-    "two\nlines": b"x\n",
-    "worse": SEGMENT + b"x\n",
-    "long": b"a" * 300,
-    "number": b"0 1 borrow 01 = wait\n",
-    "cut": PLAIN_LIFE[:-1],
+    "defaults.toml": b"", "two.toml": b"journalLimit = 2\n", "bad.toml": b"maxTotal = 1\n\nminIdle =\n",
+    "key.toml": b"maxTotal = 1\nmaxTotl = 8\n", "bytes.toml": b"lifo = true # \xff\n", "script": b"0 0 borrow 0\n",
+    "journal": PLAIN_LIFE, "segment": SEGMENT, "joined": PLAIN_LIFE + SEGMENT, "returns": PLAIN_LIFE.replace(b"\n", b"\r\n"),
+    "two\nlines": b"x\n", "worse": SEGMENT + b"x\n", "long": b"a" * 300, "number": b"0 1 borrow 01 = wait\n", "cut": PLAIN_LIFE[:-1],
 }
 USES = "try pool --help"
 SWAPPED = "this is a script or a journal: SETTINGS comes first"
