@@ -131,33 +131,20 @@ def is_ready(crate, gate):
 
 
 class Work:
-    """Parts that wait, the crates that are to be built for them, and what came of those that have ended, by name."""
+    """Parts, the crates that they need, each with whether it is built once that is known, and what came of the parts that have ended, by name."""
 
     def __init__(self, parts, progress, gate):
-        self.progress, self.gate = progress, gate
-        self.waiting = list(enumerate(parts))
-        self.unbuilt = [crate for crate in dict.fromkeys(crate for part in parts for crate in part.needs) if not is_ready(crate, gate)]
-        self.lost = set()
+        self.parts, self.progress, self.gate, self.results = parts, progress, gate, {}
         self.ready, self.left = asyncio.PriorityQueue(), len(parts)
-        self.results = {}
-        self.pass_on()
-
-    def pass_on(self):
-        """Passes on the parts that wait for no build any more, or for one that has failed."""
-        for place, part in list(self.waiting):
-            if self.lost.intersection(part.needs) or not set(self.unbuilt).intersection(part.needs):
-                self.waiting.remove((place, part))
-                self.ready.put_nowait((place, part))
+        self.built = {crate: asyncio.Future() for part in parts for crate in part.needs}
+        for crate in [crate for crate in self.built if is_ready(crate, gate)]:
+            self.built[crate].set_result(True)
 
     async def build(self):
         """Builds what is needed, one crate at a time, which has processors enough for itself: after the gate half of them, beside other parts."""
         environment = None if self.gate is None else {"BUILD_JOBS": str(max(1, PROCESSORS // 2)), **os.environ}
-        while wanted := [crate for crate in self.unbuilt if any(crate in part.needs for _, part in self.waiting)]:
-            crate = wanted[0]
-            if not is_ready(crate, self.gate):
-                await self.build_one(crate, environment)
-            self.unbuilt.remove(crate)
-            self.pass_on()
+        for crate in [crate for crate, built in self.built.items() if not built.done()]:
+            self.built[crate].set_result(is_ready(crate, self.gate) or await self.build_one(crate, environment))
 
     async def build_one(self, crate, environment):
         """Builds a crate, and shows how far that is, by the lines that begin with its name; and once it has ended in vain, its other lines."""
@@ -165,18 +152,21 @@ class Work:
         self.progress.say(f"build of {crate}")
         text, status, _ = await run(["python3", "tools/build.py", crate], environment, lambda line: line.startswith(head) and print(line, end=""))
         if status:
-            self.lost.add(crate)
             others = [line for line in text.splitlines(keepends=True) if not line.startswith(head)]
             print(f"{''.join(others)}{head}not built")
+        return not status
+
+    async def pass_on(self, place, part):
+        """Passes on a part once what it needs is built, or can't be built."""
+        self.ready.put_nowait((place, part, [crate for crate in part.needs if not await self.built[crate]]))
 
     async def play(self, builds_first):
         """Plays parts as they are ready, those first that are first in the table."""
-        if builds_first and self.unbuilt:
+        if builds_first:
             await self.build()
         while self.left:
             self.left -= 1
-            _, part = await self.ready.get()
-            lost = [crate for crate in part.needs if crate in self.lost]
+            _, part, lost = await self.ready.get()
             if lost:
                 self.results[part.name] = Result("", 0, 0, 1, f"not run, since {lost[0]} can't be built")
                 continue
@@ -187,7 +177,9 @@ class Work:
 
     async def run(self):
         """Runs all parts, and returns their results by name."""
-        async with asyncio.TaskGroup() as players:
+        async with asyncio.TaskGroup() as tasks:
+            for place, part in enumerate(self.parts):
+                tasks.create_task(self.pass_on(place, part))
             for number in range(PROCESSORS):
-                players.create_task(self.play(number == 0))
+                tasks.create_task(self.play(number == 0))
         return self.results
