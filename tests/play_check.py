@@ -259,14 +259,10 @@ def whole(trial):
 
 
 def jobs(trial):
-    """How many proofs the gate may run at a time: one for each of a few processors, or as many as the caller says."""
-    before = os.sched_getaffinity(0)
-    os.sched_setaffinity(0, {min(before)})
-    trial.check("proofs")
-    yield "a job for the processor", "rt ci repository 1\n", trial.calls.read_text()
-    trial.check("proofs", RT_JOBS="3")
-    yield "as many as the caller says", "rt ci repository 3\n", trial.calls.read_text()
-    os.sched_setaffinity(0, before)
+    """How many proofs the gate may run at a time: as it plans, or as many as the caller says."""
+    for variables, told in ({}, ""), ({"RT_JOBS": "3"}, " 3"):
+        trial.check("proofs", **variables)
+        yield f"the jobs of the gate with {variables}", f"rt ci repository{told}\n", trial.calls.read_text()
 
 
 def failing(trial):

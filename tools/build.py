@@ -7,7 +7,7 @@
 Prints on standard error which crates it builds, how many are done, and how long it has worked. It shows the output of a build only if the build
 failed, and the status is then 1. It passes over crates that are built of their sources as they are (tools/sources.py), and prints nothing if all are.
 
-Builds that run side by side share the processors, as far as there is memory. tools/kit.py builds one crate.
+Each build has a job for each processor, as far as there is memory. tools/kit.py builds one crate.
 
 BUILD_JOBS in the environment is the number of processors to take, if it is smaller: other work runs beside the build, and with fewer jobs a build takes
 less processor time.
@@ -75,8 +75,8 @@ class Work:
         print(f"{self.program}: {far}: {', '.join(self.running)}", file=sys.stderr, flush=True)
 
     def start(self, crate):
-        """Starts a build, with fewer jobs where others run already."""
-        jobs = min(processors() // (1 + len(self.running)), free_memory() // EACH_JOB)
+        """Starts a build."""
+        jobs = min(processors(), free_memory() // EACH_JOB)
         log = tempfile.TemporaryFile("w+")
         words = [sys.executable, TOOLS / "kit.py", crate, str(max(1, jobs))]
         self.running[crate] = subprocess.Popen(words, stdin=subprocess.DEVNULL, stdout=log, stderr=log), log
