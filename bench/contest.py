@@ -19,8 +19,6 @@ from playing import COMPILER
 
 LIBRARY, JAR = java.LIBRARY, java.DEBIAN_JAR
 REGISTRY = pathlib.Path("/usr/share/cargo/registry")
-# A run that takes longer hangs, in seconds.
-LONGEST = 600
 
 
 class Miscounted(Exception):

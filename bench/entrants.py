@@ -4,15 +4,16 @@ import dataclasses
 import os
 import pathlib
 import shutil
-import subprocess
 import time
 from collections.abc import Callable
 
-from contest import COMPILER, LONGEST, TOP, Contest, Miscounted, build, built, built_by_cargo, built_c, version_of, version_of_jdk
-from playing import preloaded
+from contest import COMPILER, JAR, TOP, Contest, Miscounted, build, built, built_by_cargo, built_c, version_of, version_of_jdk
+from playing import preloaded, run
 
 CONTESTANTS, RUST, CRATE = TOP / "bench/peers_java", TOP / "bench/peers_rust", TOP / "bindings/rust"
-HIKARI_JAR = pathlib.Path("/usr/share/java/HikariCP.jar")
+# The jars of the others: those of Debian, or those that the environment names.
+COMMONS_JAR = pathlib.Path(os.environ.get("COMMONS_POOL2", JAR))
+HIKARI_JAR = pathlib.Path(os.environ.get("HIKARI_CP", JAR.with_name("HikariCP.jar")))
 COMMONS, R2D2, PLAIN = "Commons Pool 2", "r2d2", "plain Rust"
 COMMONS_HOOKS = "Commons Pool 2, hooks"
 JAVA, JAVA_HOOKS = "Java", "Java, hooks"
@@ -60,7 +61,7 @@ class Entrant:
         """Runs the program once. Returns its seconds, by column."""
         command = [str(word) for word in self.command(row)]
         began = time.perf_counter()
-        done = subprocess.run(command, env=os.environ | self.environment, capture_output=True, text=True, timeout=LONGEST)
+        done = run(*command, env=os.environ | self.environment, text=True)
         seconds = time.perf_counter() - began
         report = dict(line.split(" ", 1) for line in done.stdout.splitlines() if " " in line)
         if done.returncode or not self.is_right(row, report):
@@ -102,21 +103,20 @@ class Entrants(Contest):
 
     def __init__(self, folder, asked):
         super().__init__(folder, asked, COLUMNS)
-        self.pool, self.jar, self.hikari = asked.pool, asked.jar, asked.hikari
-        self.programs = []
+        self.pool, self.programs = asked.pool, []
         of_java = self.enter_java, self.enter_in_place, self.enter_hikari
         for enter in *of_java, self.enter_r2d2, self.enter_plain, self.enter_crate, self.enter_c, self.enter_load:
             enter()
 
     def built_contest(self, kinds, has_ours, in_place=False):
         """Builds the contestants that use Commons Pool 2, of these kinds."""
-        self.note_jars(self.jar)
+        self.note_jars(COMMONS_JAR)
         self.note(version_of_jdk())
-        return self.built_java(CONTESTANTS, ["Bench", "Contestant", "Holders", *kinds], [self.jar], has_ours, in_place)
+        return self.built_java(CONTESTANTS, ["Bench", "Contestant", "Holders", *kinds], [COMMONS_JAR], has_ours, in_place)
 
     def of_commons(self):
         """What all need that use Commons Pool 2."""
-        return (version_of_jdk(), "JDK"), (self.jar.exists(), f"libcommons-pool2-java ({self.jar})")
+        return (version_of_jdk(), "JDK"), (COMMONS_JAR.exists(), f"libcommons-pool2-java ({COMMONS_JAR})")
 
     def enter_java(self):
         """Enters Commons Pool 2 and the pool for Java, which take turns in one virtual machine; and both once more with hooks."""
@@ -144,12 +144,12 @@ class Entrants(Contest):
         """Enters HikariCP's bag of objects, in a virtual machine of its own. It loads only with the interface of its logger."""
         if not self.wants(HIKARI):
             return
-        logger = self.hikari.with_name("slf4j-api.jar")
-        jars = (self.hikari.exists(), f"libhikaricp-java ({self.hikari})"), (logger.exists(), f"libslf4j-java ({logger})")
+        logger = HIKARI_JAR.with_name("slf4j-api.jar")
+        jars = (HIKARI_JAR.exists(), f"libhikaricp-java ({HIKARI_JAR})"), (logger.exists(), f"libslf4j-java ({logger})")
         if self.has([HIKARI], (version_of_jdk(), "JDK"), *jars):
-            self.note_jars(self.hikari)
+            self.note_jars(HIKARI_JAR)
             self.note(version_of_jdk())
-            program = self.built_java(CONTESTANTS, ["Bench", "Contestant", "Hikari"], [self.hikari, logger], False)
+            program = self.built_java(CONTESTANTS, ["Bench", "Contestant", "Hikari"], [HIKARI_JAR, logger], False)
             self.enter_contestants(program, "bare", {"Hikari": HIKARI})
 
     def enter_contestants(self, program, factory, columns):

@@ -13,18 +13,19 @@ bench/soak must fail each report in which one number is wrong.
 Prints what fails, and in the end the line 'N passed, M failed'.
 """
 
+import os
 import pathlib
 import re
 import runpy
-import subprocess
 import sys
 import tempfile
 import types
 
+import playing
 from playing import NO_CARGO, TOP, has, play_checks, scratch, skip
 from postgres_server import Server
 
-from contest import LONGEST, Miscounted, runs_cargo
+from contest import Miscounted, runs_cargo
 from entrants import (
     C, CLOCK, COMMONS, COMMONS_HOOKS, COUNTER, HIKARI, HIKARI_JAR, HOOKS, IN_PLACE, JAVA, JAVA_HOOKS, LOAD, OF_JAVA, PLAIN, R2D2, Row,
     is_right_contestant,
@@ -40,9 +41,8 @@ TARGETS = {
     (CLOCK, COMMONS): BESIDE_COMMONS, (C, COMMONS): BESIDE_COMMONS, (CLOCK, R2D2): BESIDE_R2D2, (C, R2D2): BESIDE_R2D2,
     (LOAD, COMMONS): {1: 0.7, 2: 0.7, 4: 0.7},
 }
-ABSENT = ["--jar", "/nowhere/commons-pool2.jar", "--registry", "/nowhere"]
-NO_LIBRARY = ["--library", "/nowhere/libzuphinka.a"]
-NO_BAG = ["--hikari", "/nowhere/HikariCP.jar"]
+NO_CRATES, NO_LIBRARY = ["--registry", "/nowhere"], ["--library", "/nowhere/libzuphinka.a"]
+NO_POOL, NO_BAG = {"COMMONS_POOL2": "/nowhere/commons-pool2.jar"}, {"HIKARI_CP": "/nowhere/HikariCP.jar"}
 # A program in the place of POOL that makes one pair less than it is asked for.
 ONE_LESS = """#!/bin/sh
 pairs=$(($3 * $4 - 1))
@@ -82,12 +82,12 @@ LOADED = {"status": "0", "refused": "0", **dict.fromkeys(("borrowed", "returned"
 WRONG_LOAD = {"status": "3", "refused": "1", "borrowed": "1", "returned": "1", "created": "5", "destroyed": "3"}
 
 
-def run(name, *words):
-    return subprocess.run([TOP / "bench" / name, *words], capture_output=True, text=True, timeout=LONGEST)
+def run(name, *words, **variables):
+    return playing.run(TOP / "bench" / name, *words, text=True, env=os.environ | variables)
 
 
-def peers(*words):
-    return run("peers", "--pairs", str(PAIRS), "--rounds", "1", *words)
+def peers(*words, **variables):
+    return run("peers", "--pairs", str(PAIRS), "--rounds", "1", *words, **variables)
 
 
 def database_run(*words):
@@ -137,7 +137,7 @@ def missed_targets(done, our, peer, targets):
 
 def missing_peers(pool):
     """Without the packages five pools are named and left out, and no row has a target."""
-    done = peers("--pool", pool, *ABSENT, *NO_BAG)
+    done = peers("--pool", pool, *NO_CRATES, **NO_POOL, **NO_BAG)
     yield "what is left out", [], [column for column in (COMMONS, JAVA, IN_PLACE, HIKARI, R2D2) if f"left out: {column}: no " not in done.stdout]
     yield from tables_of_peers("without packages", done, [PLAIN, COUNTER, CLOCK, HOOKS, C, LOAD], [PLAIN])
     heads = {title for head, *_ in tables(done) for title in head}
@@ -175,12 +175,12 @@ def bag(has_bag):
     with scratch() as folder:
         alone = folder / HIKARI_JAR.name
         alone.touch()
-        done = peers("--only", HIKARI, "--only", PLAIN, "--hikari", alone)
+        done = peers("--only", HIKARI, "--only", PLAIN, HIKARI_CP=str(alone))
         line = f"left out: {HIKARI}: no libslf4j-java ({folder}/slf4j-api.jar)"
         yield "the bag without a logger", (True, 0), (line in done.stdout.splitlines() or done, done.returncode)
     if not has_bag:
         return
-    done = peers("--only", HIKARI, "--only", PLAIN, *ABSENT)
+    done = peers("--only", HIKARI, "--only", PLAIN, *NO_CRATES, **NO_POOL)
     shown = tables(done)
     yield "the bag's table", (1, True), (len(shown), is_of(r"\d+\.\d\d", *shown))
     yield "its columns and rows", ([HIKARI, PLAIN], ROWS), (shown[0][0][1:], [line[0] for line in shown[0][1:]])
@@ -202,7 +202,7 @@ def counting():
         program = folder / "pool"
         program.write_text(ONE_LESS)
         program.chmod(0o755)
-        done = peers("--pool", str(program), *ABSENT, *NO_LIBRARY)
+        done = peers("--pool", str(program), *NO_CRATES, *NO_LIBRARY, **NO_POOL)
     yield "no library", True, f"left out: {JAVA}: no libzuphinka.a (/nowhere/libzuphinka.a)" in done.stdout.splitlines() or done
     yield "a pair too few", (1, True), (done.returncode, "a run failed: 4 objects, 1 thread" in done.stderr or done)
 
@@ -230,7 +230,7 @@ def waits():
 
 def missing_waits():
     """Without the packages r2d2 and Commons Pool are named and left out, and no row has a target."""
-    done = run("longest_waits", "--waits", "3", "--rounds", "1", *ABSENT)
+    done = run("longest_waits", "--waits", "3", "--rounds", "1", *NO_CRATES, **NO_POOL)
     yield "waits that are left out", [], [column for column in (R2D2, COMMONS) if f"left out: {column}: no " not in done.stdout]
     shown = tables(done)
     yield "the table of waits", (1, True, 5), (len(shown), is_of(r"[\d,]+ \([\d,]+\)", *shown), len(shown[0])) if shown else done
