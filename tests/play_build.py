@@ -84,15 +84,12 @@ class Trial(Repository):
 
 
 def at_first(trial):
-    """What is built at first, in which order, with how many jobs; and with as many jobs as the environment says."""
+    """What is built at first, in which order, with how many jobs."""
     yield from trial.builds("at first", ALL)
     calls = {name: (what, int(jobs)) for what, name, _, jobs in map(str.split, trial.calls.read_text().splitlines())}
     yield "the last to be built", ("pool", "program"), ([*calls][-1], calls["pool"][0])
     for name in "low", "alone":
         yield f"{name}: the jobs", True, 1 <= calls[name][1] <= len(os.sched_getaffinity(0))
-    trial.change("echo // more >>crates/low/src/lib.rt")
-    trial.run("pool", "x", BUILD_JOBS="1")
-    yield "with one job", ["1"] * 4, [line.split()[3] for line in trial.calls.read_text().splitlines()]
 
 
 def steps(trial):

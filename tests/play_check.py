@@ -238,8 +238,6 @@ def whole(trial):
     yield "all: the gate is first", ("rt ci repository", ["check: part 1 of 9, proofs"]), (done.calls[0], began(done)[:1])
     proofs = [call for call in done.calls if not call.startswith("begin ")]
     yield "all: no other proof", ["rt ci repository", "archive archive", "built archive"], proofs
-    jobs = int(re.search(r"^archive archive --jobs (\d+)", trial.calls.read_text(), re.MULTILINE)[1])
-    yield "all: parts run beside the build", True, jobs <= max(1, len(os.sched_getaffinity(0)) // 2)
     yield "all: the program is the gate's", True, "tool has # gate // tool" in done.lines
     yield "all: each part once", sorted(names), sorted(call.split()[1] for call in done.calls if call.startswith("begin "))
     found = [call for call in done.calls if call in ("begin slow", "built archive", "begin late")]

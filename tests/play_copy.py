@@ -23,8 +23,6 @@ import sources
 
 CRATE = "example_server"
 RUN, BUILD = "(cd crates/{} && rt try)", "python3 tools/build.py {}"
-# Other parts run beside the proof of the copy.
-ONE_JOB = {"BUILD_JOBS": "1"}
 
 
 def commands():
@@ -67,7 +65,7 @@ def checks(room, lines, name):
     stale = [library for library in sources.below(CRATE) - {CRATE} if not sources.is_current(library)]
     yield "what is not built of its sources as they are", [], sorted(stale)
     if not stale:
-        done = run("bash", "-ec", lines[-1], cwd=room, text=True, env=os.environ | ONE_JOB)
+        done = run("bash", "-ec", lines[-1], cwd=room, text=True)
         yield "the copy is proved", (0, True), (done.returncode and done.stderr, (room / "crates" / name / "out" / name).is_file())
         yield "no more is built", True, done.stderr.startswith(f"{name}: 0 of 1 crates, ") or done.stderr
 

@@ -8,9 +8,6 @@ Prints on standard error which crates it builds, how many are done, and how long
 failed, and the status is then 1. It passes over crates that are built of their sources as they are (tools/sources.py), and prints nothing if all are.
 
 Each build has a job for each processor, as far as there is memory. tools/kit.py builds one crate.
-
-BUILD_JOBS in the environment is the number of processors to take, if it is smaller: other work runs beside the build, and with fewer jobs a build takes
-less processor time.
 """
 
 import fcntl
@@ -32,12 +29,6 @@ TOOLS = pathlib.Path(__file__).resolve().parent
 PAUSE, REMIND = 0.2, 60
 # The memory that each job may take, in bytes.
 EACH_JOB = 1_500_000_000
-
-
-def processors():
-    """How many processors a build takes: all, or as many as the environment says."""
-    most = os.environ.get("BUILD_JOBS", "")
-    return min(len(os.sched_getaffinity(0)), max(1, int(most)) if most.isdecimal() else sys.maxsize)
 
 
 def free_memory():
@@ -76,7 +67,7 @@ class Work:
 
     def start(self, crate):
         """Starts a build."""
-        jobs = min(processors(), free_memory() // EACH_JOB)
+        jobs = min(len(os.sched_getaffinity(0)), free_memory() // EACH_JOB)
         log = tempfile.TemporaryFile("w+")
         words = [sys.executable, TOOLS / "kit.py", crate, str(max(1, jobs))]
         self.running[crate] = subprocess.Popen(words, stdin=subprocess.DEVNULL, stdout=log, stderr=log), log

@@ -83,12 +83,12 @@ async def end(process):
                 await asyncio.wait_for(process.wait(), GRACE)
 
 
-async def run(words, environment=None, show=None):
-    """Runs a command, in a session of its own, so that all that it starts can be ended with it; in this environment, or else in this process's. Calls
-    `show` with each line as soon as it is written. Returns what it wrote, its status and its seconds."""
+async def run(words, show=None):
+    """Runs a command, in a session of its own, so that all that it starts can be ended with it. Calls `show` with each line as soon as it is written.
+    Returns what it wrote, its status and its seconds."""
     began, rest = time.monotonic(), ""
     with tempfile.TemporaryFile() as log, open(f"/proc/self/fd/{log.fileno()}", encoding="utf-8", errors="replace", newline="\n") as written:
-        options = {"cwd": TOP, "stdin": subprocess.DEVNULL, "stdout": log, "stderr": log, "start_new_session": True, "env": environment}
+        options = {"cwd": TOP, "stdin": subprocess.DEVNULL, "stdout": log, "stderr": log, "start_new_session": True}
         process = await asyncio.create_subprocess_exec(*words, **options)
         ended = asyncio.create_task(process.wait())
         try:
@@ -141,16 +141,15 @@ class Work:
             self.built[crate].set_result(True)
 
     async def build(self):
-        """Builds what is needed, one crate at a time, which has processors enough for itself: after the gate half of them, beside other parts."""
-        environment = None if self.gate is None else {"BUILD_JOBS": str(max(1, PROCESSORS // 2)), **os.environ}
+        """Builds what is needed, one crate at a time."""
         for crate in [crate for crate, built in self.built.items() if not built.done()]:
-            self.built[crate].set_result(is_ready(crate, self.gate) or await self.build_one(crate, environment))
+            self.built[crate].set_result(is_ready(crate, self.gate) or await self.build_one(crate))
 
-    async def build_one(self, crate, environment):
+    async def build_one(self, crate):
         """Builds a crate, and shows how far that is, by the lines that begin with its name; and once it has ended in vain, its other lines."""
         head = f"{crate}: "
         self.progress.say(f"build of {crate}")
-        text, status, _ = await run(["python3", "tools/build.py", crate], environment, lambda line: line.startswith(head) and print(line, end=""))
+        text, status, _ = await run(["python3", "tools/build.py", crate], lambda line: line.startswith(head) and print(line, end=""))
         if status:
             others = [line for line in text.splitlines(keepends=True) if not line.startswith(head)]
             print(f"{''.join(others)}{head}not built")
