@@ -1,4 +1,3 @@
-#!/usr/bin/env python3
 """Reads and writes files of cases, in the format that tests/cases/README.md explains.
 
     case_files.py CASES.. FOLDER

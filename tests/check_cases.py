@@ -1,4 +1,3 @@
-#!/usr/bin/env python3
 """Sees that the files of tests/cases are as tests/make_cases.py makes them, and that tests/case_files.py rejects files that break the format.
 
 check_cases.py  The last line is 'N passed, M failed'.

@@ -1,4 +1,3 @@
-#!/usr/bin/env python3
 """Sees that what README.md, CONTRIBUTING.md, SECURITY.md, bindings/c/README.md, examples/README.md and docs/ name is there, and what code they show.
 
 check_names.py  The last line is 'N passed, M failed'.

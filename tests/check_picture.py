@@ -1,4 +1,3 @@
-#!/usr/bin/env python3
 """Draws journals, and compares each picture with a plain reading of the journal (tests/picture_model.py).
 
 check_picture.py PROGRAM CASES..  The last line is 'N passed, M failed'.

@@ -1,4 +1,3 @@
-#!/usr/bin/env python3
 """Builds the Rust crate in bindings/rust, and sees that its tests pass and its examples do what they say.
 
     check_rust.py POOL [JUDGE]

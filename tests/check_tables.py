@@ -1,4 +1,3 @@
-#!/usr/bin/env python3
 """Compares the tables of docs/ with each other, the sources and the cases.
 
 check_tables.py  The last line is 'N passed, M failed'.

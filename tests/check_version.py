@@ -1,4 +1,3 @@
-#!/usr/bin/env python3
 """Sees that all tell the version that the file VERSION has: the Rust crate and its lock file, the descriptions of the Java library for Maven, the C
 header, the C library, the programs, the man page and the change log.
 

@@ -1,4 +1,3 @@
-#!/usr/bin/env python3
 """Counts what the program asks of the system, and compares it with what the data need.
 
     count_work.py POOL TALLY

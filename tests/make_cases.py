@@ -1,4 +1,3 @@
-#!/usr/bin/env python3
 """Makes the files of tests/cases anew, in the format that tests/cases/README.md explains.
 
     make_cases.py

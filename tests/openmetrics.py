@@ -1,4 +1,3 @@
-#!/usr/bin/env python3
 """Reads the texts of pools' metrics in the OpenMetrics format, strictly. Run as a program, it tests itself.
 
     openmetrics.py

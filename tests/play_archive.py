@@ -1,4 +1,3 @@
-#!/usr/bin/env python3
 """Runs the example of an archive many times over, and judges the segments that it leaves.
 
     play_archive.py ARCHIVE OUTPUT POOL [RUNS]

@@ -1,4 +1,3 @@
-#!/usr/bin/env python3
 """Runs the example of pooled connections to SQLite databases, and looks at what it leaves.
 
     play_bank.py BANK POOL JOURNAL_PICTURE RUNS

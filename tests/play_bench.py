@@ -1,4 +1,3 @@
-#!/usr/bin/env python3
 """Sees that bench/peers, bench/longest_waits, bench/database and bench/soak find what is wrong.
 
     play_bench.py POOL

@@ -1,4 +1,3 @@
-#!/usr/bin/env python3
 """Tests of what ./pool, tools/build.py and tools/sources.py build again, and what not: in a small repository of its own, with a kit that proves nothing
 and notes what it was asked to build. And of the table of tools/gate_times.py.
 

@@ -1,4 +1,3 @@
-#!/usr/bin/env python3
 """Tests the pool for threads in C, bindings/c/src/zuphinka_pool.c, by the program tests/play_c_pool.c.
 
     play_c_pool.py LIBRARY POOL JUDGE

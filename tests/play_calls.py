@@ -1,4 +1,3 @@
-#!/usr/bin/env python3
 """Plays calls of all kinds at random on PROGRAM, event by event, and compares each answer with that of a model.
 
     play_calls.py PROGRAM [--seeds N] [--seed SEED] [--commands N]

@@ -1,4 +1,3 @@
-#!/usr/bin/env python3
 """Plays the cases of files and folders on the program, and compares all that is answered.
 
     play_cases.py POOL CASES..

@@ -1,4 +1,3 @@
-#!/usr/bin/env python3
 """Tests of ./check: in a small repository of its own, with a table of tiny parts, and commands `rt`, `apt-get` and `sudo` that prove and install
 nothing, and note what they were asked. And of the tables in tools/parts.py: that they name what is there, and forget no test and no package.
 

@@ -1,4 +1,3 @@
-#!/usr/bin/env python3
 """Runs the commands that README.md, bindings/c/README.md, docs/ and the program's help show, judges the journals, and plays the examples of settings.
 
     play_commands.py POOL JOURNAL_PICTURE

@@ -1,4 +1,3 @@
-#!/usr/bin/env python3
 """Runs the tests of Commons Pool 2, unchanged, over the pool for Java, and compares which pass with docs/guide/commons-pool-tests.md.
 
     play_commons_pool.py LIBRARY POOL JUDGE

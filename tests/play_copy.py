@@ -1,4 +1,3 @@
-#!/usr/bin/env python3
 """Copies the crate `example_server` under another name by the commands of its README, looks at the copy, proves it and builds it.
 
     play_copy.py

@@ -1,4 +1,3 @@
-#!/usr/bin/env python3
 """Damages a journal of 10,000 lines in each of 10,000 ways, and compares the program's verdict with that of tests/pool_model.py.
 
     play_damaged.py POOL [WAYS]

@@ -1,4 +1,3 @@
-#!/usr/bin/env python3
 """Tests the jar with a GenericObjectPool in place of the library's, which tools/java.py builds, before Commons Pool 2 on the class path.
 
     play_drop_in.py LIBRARY POOL JUDGE

@@ -1,4 +1,3 @@
-#!/usr/bin/env python3
 """Tests tools/install.py: installs the C library under a prefix of its own, and builds programs with the installed files alone.
 
     play_install.py LIBRARY

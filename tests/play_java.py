@@ -1,4 +1,3 @@
-#!/usr/bin/env python3
 """Builds the pool for Java (tools/java.py), and plays its test programs, each under the checks of the virtual machine for native methods.
 
     play_java.py LIBRARY POOL JOURNAL_PICTURE JUDGE

@@ -1,4 +1,3 @@
-#!/usr/bin/env python3
 """Makes random calls of the pool for Java and of Commons Pool 2, by tests/java/Promises.java, and compares what they promise with what they do.
 
     play_java_random.py LIBRARY

@@ -1,4 +1,3 @@
-#!/usr/bin/env python3
 """Judges segments of journals by themselves, in any order, and joins what was found, as many machines would.
 
     play_judge.py JUDGE POOL CASES..

@@ -1,4 +1,3 @@
-#!/usr/bin/env python3
 """Kills the program in the midst of a run, at twenty moments, and sees that the whole lines that it left are a legal journal.
 
     play_killed.py POOL

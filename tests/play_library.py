@@ -1,4 +1,3 @@
-#!/usr/bin/env python3
 """Plays the C library by its programs, and compares all that is answered.
 
     play_library.py programs LIBRARY CASES

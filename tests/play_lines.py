@@ -1,4 +1,3 @@
-#!/usr/bin/env python3
 """Plays lines that are none of the format, and a journal that is cut off or changed at each of its bytes, and compares what is told of them.
 
     play_lines.py POOL

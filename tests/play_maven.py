@@ -1,4 +1,3 @@
-#!/usr/bin/env python3
 """Builds the pool for Java with Maven, offline, from Debian's packages of its plugins, and compares the jars with those of tools/java.py.
 
     play_maven.py LIBRARY

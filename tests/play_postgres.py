@@ -1,4 +1,3 @@
-#!/usr/bin/env python3
 """Runs the examples over PostgreSQL, in Rust, Java and C, while the server fails in several ways.
 
     play_postgres.py LIBRARY POOL

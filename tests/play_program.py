@@ -1,4 +1,3 @@
-#!/usr/bin/env python3
 """Plays the program with all kinds of arguments, files and streams, and compares all that is answered.
 
     play_program.py POOL

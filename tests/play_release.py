@@ -1,4 +1,3 @@
-#!/usr/bin/env python3
 """Tests of tools/release.py: makes the archive, unpacks it in a folder of its own, and does there what its README says, without the proof toolchain
 on the PATH and without a network for cargo.
 

@@ -1,4 +1,3 @@
-#!/usr/bin/env python3
 """Judges journals that were cut into segments by the program, and compares its verdicts with what is wanted.
 
     play_segments.py POOL CASES..

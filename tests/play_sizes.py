@@ -1,4 +1,3 @@
-#!/usr/bin/env python3
 """Plays the program on journals, pools, evictions, clears, bases, settings texts, keys and loads of all sizes, and sees that it gives up on none.
 
     play_sizes.py POOL

@@ -1,4 +1,3 @@
-#!/usr/bin/env python3
 """Sees what the program tells a terminal, and nothing else: how far it is, and hints after the line of an error.
 
     play_terminal.py POOL

@@ -1,4 +1,3 @@
-#!/usr/bin/env python3
 """Tests of ./try: what it hands to `rt try` and gives back, with a command `rt` that writes what it was asked; without any; and, where there is the
 kit, one run of the program that is compared with its journal.
 

@@ -1,4 +1,3 @@
-#!/usr/bin/env python3
 """Plays cases on the program without its proofs, and compares what it writes to standard output, and its statuses.
 
     play_unproved.py CASES..

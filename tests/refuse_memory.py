@@ -1,4 +1,3 @@
-#!/usr/bin/env python3
 """Refuses a test program its allocations, and sees that it gives no wrong answer.
 
     refuse_memory.py goes-on PROGRAM OUTPUT

@@ -1,4 +1,3 @@
-#!/usr/bin/env python3
 """Refuses the program its allocations, each in turn, in all that it is used for, and sees that it tells no wrong thing.
 
     refuse_uses.py POOL

@@ -1,4 +1,3 @@
-#!/usr/bin/env python3
 """Writes the journal of which docs/pictures/overview.svg is the picture: five minutes of a pool that thirty callers share.
 
 sample_journal.py > journal

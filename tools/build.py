@@ -1,4 +1,3 @@
-#!/usr/bin/env python3
 """Proves and builds a program of the repository, or a static library, with the libraries that it depends on: independent ones in parallel.
 
     tools/build.py PROGRAM

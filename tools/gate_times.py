@@ -1,4 +1,3 @@
-#!/usr/bin/env python3
 """Runs a command, as the gate, and prints how many processor seconds the prover took in it by crate: for its proofs, its tests' proofs, its must-fail
 edits and its compilation. docs/proving.md has such a table.
 

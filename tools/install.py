@@ -1,4 +1,3 @@
-#!/usr/bin/env python3
 """Installs the C library under a prefix: headers, an archive and a shared library, the source of the pool for threads, and two files for pkg-config.
 
     tools/install.py --prefix FOLDER [--destdir FOLDER] [--library FILE] [--heap FILE]

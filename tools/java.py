@@ -1,4 +1,3 @@
-#!/usr/bin/env python3
 """Builds the pool for Java: the native library over the core's C library, and a jar that has it.
 
     tools/java.py

@@ -1,4 +1,3 @@
-#!/usr/bin/env python3
 """Proves and builds one crate over the libraries below it, which are built (tools/build.py).
 
     tools/kit.py CRATE JOBS

@@ -1,4 +1,3 @@
-#!/usr/bin/env python3
 """Makes an archive of what users take, which needs no proof toolchain: zuphinka-VERSION-linux-x86_64.tar.gz.
 
     tools/release.py [--gate FILE] [--output FOLDER] [--programs FOLDER] [--without-java]
