@@ -256,10 +256,13 @@ def whole(trial):
 
 
 def jobs(trial):
-    """How many proofs the gate may run at a time: as it plans, or as many as the caller says."""
-    for variables, told in ({}, ""), ({"RT_JOBS": "3"}, " 3"):
+    """How many proofs the gate may run at a time: one for each of a few processors, or as many as the caller says."""
+    before = os.sched_getaffinity(0)
+    os.sched_setaffinity(0, {min(before)})
+    for variables, told in ({}, 1), ({"RT_JOBS": "3"}, 3):
         trial.check("proofs", **variables)
-        yield f"the jobs of the gate with {variables}", f"rt ci repository{told}\n", trial.calls.read_text()
+        yield f"the jobs of the gate with {variables}", f"rt ci repository {told}\n", trial.calls.read_text()
+    os.sched_setaffinity(0, before)
 
 
 def failing(trial):

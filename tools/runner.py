@@ -83,12 +83,12 @@ async def end(process):
                 await asyncio.wait_for(process.wait(), GRACE)
 
 
-async def run(words, show=None):
-    """Runs a command, in a session of its own, so that all that it starts can be ended with it. Calls `show` with each line as soon as it is written.
-    Returns what it wrote, its status and its seconds."""
+async def run(words, show=None, environment=None):
+    """Runs a command, in a session of its own, so that all that it starts can be ended with it; in this environment, or else in this process's. Calls
+    `show` with each line as soon as it is written. Returns what it wrote, its status and its seconds."""
     began, rest = time.monotonic(), ""
     with tempfile.TemporaryFile() as log, open(f"/proc/self/fd/{log.fileno()}", encoding="utf-8", errors="replace", newline="\n") as written:
-        options = {"cwd": TOP, "stdin": subprocess.DEVNULL, "stdout": log, "stderr": log, "start_new_session": True}
+        options = {"cwd": TOP, "stdin": subprocess.DEVNULL, "stdout": log, "stderr": log, "start_new_session": True, "env": environment}
         process = await asyncio.create_subprocess_exec(*words, **options)
         ended = asyncio.create_task(process.wait())
         try:
