@@ -1,5 +1,7 @@
 package org.apache.commons.pool2.impl;
 
+import java.lang.ref.WeakReference;
+import java.util.NoSuchElementException;
 import java.util.concurrent.atomic.AtomicLong;
 import org.apache.commons.pool2.BasePooledObjectFactory;
 import org.apache.commons.pool2.DestroyMode;
@@ -13,6 +15,8 @@ class CountedFactory<T> extends BasePooledObjectFactory<T> {
     private final AtomicLong making = new AtomicLong();
     /** What the eviction run of a thread throws at its end. */
     private final ThreadLocal<EvictionFailure> failures = new ThreadLocal<>();
+    /** What the factory last threw in a thread in place of an object, if it may look like an exception of the pool. */
+    private final ThreadLocal<WeakReference<Exception>> notMade = new ThreadLocal<>();
 
     /** An eviction run. */
     interface Run {
@@ -73,9 +77,18 @@ class CountedFactory<T> extends BasePooledObjectFactory<T> {
             PooledObject<T> made = factory.makeObject();
             pool.createdCount.addAndGet(made == null ? 0 : 1);
             return made;
+        } catch (NoSuchElementException | IllegalStateException e) {
+            notMade.set(new WeakReference<>(e));
+            throw e;
         } finally {
             making.decrementAndGet();
         }
+    }
+
+    /** Returns whether the factory threw a failure of this thread in place of an object. */
+    boolean isOfMake(Exception failure) {
+        WeakReference<Exception> last = notMade.get();
+        return last != null && last.get() == failure;
     }
 
     /** Makes an eviction run in this thread, and then throws what a test or a destruction threw first, as the library does at once. */

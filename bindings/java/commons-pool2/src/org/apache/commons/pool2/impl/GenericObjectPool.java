@@ -117,9 +117,9 @@ public class GenericObjectPool<T> extends BaseGenericObjectPool<T> implements Ob
             noteLoan(object, System.nanoTime() - first);
             return object;
         } catch (NoSuchElementException e) {
-            throw none(e, borrowMaxWaitDuration);
+            throw counted.isOfMake(e) ? e : none(e, borrowMaxWaitDuration);
         } catch (IllegalStateException e) {
-            throw isClosed() && "Pool not open".equals(e.getMessage()) ? closedMeanwhile(e) : e;
+            throw isClosed() && "Pool not open".equals(e.getMessage()) && !counted.isOfMake(e) ? closedMeanwhile(e) : e;
         } finally {
             pool.showCounts();
         }
