@@ -45,7 +45,7 @@ final class ProvedPool<T> extends ZuphinkaPool<T> {
         GenericObjectPoolConfig<T> config = new GenericObjectPoolConfig<>();
         config.setJmxEnabled(false);
         config.setBlockWhenExhausted(pool.getBlockWhenExhausted());
-        config.setEvictionPolicy(pool.getEvictionPolicy());
+        config.setEvictionPolicy(ToldPolicy.of(pool));
         config.setFairness(pool.getFairness());
         config.setLifo(pool.getLifo());
         config.setMaxIdle(pool.getMaxIdle());
@@ -84,7 +84,7 @@ final class ProvedPool<T> extends ZuphinkaPool<T> {
                 && getTestOnReturn() == owner.getTestOnReturn()
                 && getTestWhileIdle() == owner.getTestWhileIdle()
                 && getNumTestsPerEvictionRun() == owner.getNumTestsPerEvictionRun()
-                && getEvictionPolicy() == owner.getEvictionPolicy();
+                && ToldPolicy.inside(getEvictionPolicy()) == owner.getEvictionPolicy();
     }
 
     /** Takes the settings of the owner over, if they changed. */
