@@ -3,6 +3,7 @@ package org.apache.commons.pool2.impl;
 import java.time.Duration;
 import java.util.NoSuchElementException;
 import java.util.Set;
+import java.util.concurrent.TimeUnit;
 import org.apache.commons.pool2.DestroyMode;
 import org.apache.commons.pool2.ObjectPool;
 import org.apache.commons.pool2.PooledObject;
@@ -141,14 +142,14 @@ public class GenericObjectPool<T> extends BaseGenericObjectPool<T> implements Ob
         try {
             PooledObject<T> pooled = pool.wrapperOf(object);
             if (pooled != null) {
-                updateStatsBorrow(pooled, Duration.ofNanos(nanos));
+                updateStatsBorrow(pooled, Duration.ofMillis(TimeUnit.NANOSECONDS.toMillis(nanos)));
             }
         } catch (OutOfMemoryError e) {
             // The object is lent.
         }
     }
 
-    /** Returns the exception of a borrow that got no object, with the message of the library. What {@code makeObject} threw is returned as it is. */
+    /** Returns the exception of a borrow that got no object, with the message of the library. */
     private NoSuchElementException none(NoSuchElementException failure, Duration longest) {
         String given = String.valueOf(failure.getMessage());
         String message = appendStats(given.equals(TIMEOUT) ? given + ", borrowMaxWaitDuration=" + longest : given);
