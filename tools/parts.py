@@ -44,7 +44,7 @@ PARTS = (
     Part("maven", "the jars of the pool for Java that Maven builds", "python3 tests/play_maven.py {zuphinka}"),
     Part("java-random", "six threads that call at random over a factory that fails, on the pool for Java; what Commons Pool 2 does there is shown",
          "python3 tests/play_java_random.py {zuphinka}"),
-    Part("commons-random", "random calls of one thread, each made of the pool for Java and of Commons Pool 2, whose outcomes are compared",
+    Part("commons-random", "random calls of one thread, each made of the pool for Java, or in place of Commons Pool 2, and of the library",
          "python3 tests/commons_random.py {zuphinka}"),
     Part("commons-pool", "the tests of Commons Pool 2, unchanged, over the pool for Java",
          "python3 tests/play_commons_pool.py {zuphinka} {pool} {judge}", fetch="python3 tests/play_commons_pool.py --fetch"),

@@ -5,11 +5,12 @@ import java.util.Map;
 import java.util.Random;
 
 /**
- * Runs of random calls of one thread, each of Commons Pool and of {@code ZuphinkaPool} with the same random settings, over factories that fail alike.
+ * Runs of random calls of one thread, each of Commons Pool and of another pool with the same random settings, over factories that fail alike.
  *
- * <p>{@code CommonsRandom SEED RUNS SHOWN} makes runs with the seeds from SEED on. A run fails at the first call whose outcome is neither the same in
- * both nor the one that the rule of a difference says. It prints the first SHOWN such calls, each with few calls before it; how often each difference
- * was met; and how many runs passed and failed.
+ * <p>{@code CommonsRandom POOL SEED RUNS SHOWN} makes runs with the seeds from SEED on. POOL is {@code ZuphinkaPool}, or {@code InPlacePool}: the
+ * class in place of the library's, under this name. A run fails at the first call whose outcome is neither the same in both nor the one that the rule
+ * of a difference says. It prints the first SHOWN such calls, each with few calls before it; how often each difference was met; and how many runs
+ * passed and failed. If SHOWN is 0 it ends with the first run that fails.
  */
 public final class CommonsRandom {
     private static final int CALLS = 200;
@@ -17,11 +18,13 @@ public final class CommonsRandom {
 
     private final Map<String, Integer> met = new LinkedHashMap<>();
     private final int shown;
+    private final boolean isInPlace;
     private long compared;
     private int failed;
 
-    private CommonsRandom(int shown) {
+    private CommonsRandom(int shown, boolean isInPlace) {
         this.shown = shown;
+        this.isInPlace = isInPlace;
         for (Difference difference : Difference.values()) {
             met.put(difference.row, 0);
         }
@@ -29,7 +32,7 @@ public final class CommonsRandom {
 
     private void play(int seed) {
         Random random = new Random(seed);
-        Settings settings = new Settings(random);
+        Settings settings = new Settings(random, isInPlace);
         List<Call> calls = settings.calls(random, CALLS, CALLS_AFTER_CLOSE);
         Comparison comparison = Comparison.of(settings, calls);
         compared += comparison.compared();
@@ -64,10 +67,10 @@ public final class CommonsRandom {
     }
 
     public static void main(String[] words) {
-        int first = Integer.parseInt(words[0]);
-        int runs = Integer.parseInt(words[1]);
-        CommonsRandom all = new CommonsRandom(Integer.parseInt(words[2]));
-        for (int seed = first; seed < first + runs; seed++) {
+        int first = Integer.parseInt(words[1]);
+        int runs = Integer.parseInt(words[2]);
+        CommonsRandom all = new CommonsRandom(Integer.parseInt(words[3]), words[0].equals("InPlacePool"));
+        for (int seed = first; seed < first + runs && (all.shown > 0 || all.failed == 0); seed++) {
             all.play(seed);
         }
         System.out.println(all.compared + " calls in " + runs + " runs");

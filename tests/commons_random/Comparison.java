@@ -8,9 +8,10 @@ import java.util.Map;
 import java.util.stream.Collectors;
 import java.util.stream.IntStream;
 import org.apache.commons.pool2.impl.DefaultPooledObject;
+import org.apache.commons.pool2.impl.InPlacePool;
 import org.apache.commons.pool2.impl.PlacedPool;
 
-/** One run: the same calls of Commons Pool and of {@code ZuphinkaPool}, compared one by one, until they differ or the pools have different objects. */
+/** One run: the same calls of Commons Pool and of another pool, compared one by one, until they differ or the pools have different objects. */
 final class Comparison {
     private final Settings settings;
     private final PlacedPool<Item> pool;
@@ -26,10 +27,19 @@ final class Comparison {
     private Comparison(Settings settings) {
         this.settings = settings;
         Items first = Items.of(settings, TimedItem::new);
-        Items second = Items.of(settings, DefaultPooledObject::new);
         pool = new PlacedPool<>(first, settings.config, settings.abandoned);
         library = Side.of(first, pool);
-        ours = Side.of(second, new ZuphinkaPool<>(second, settings.config, settings.abandoned) {
+        ours = settings.isInPlace ? inPlace() : zuphinka();
+    }
+
+    private Side inPlace() {
+        Items items = Items.of(settings, TimedItem::new);
+        return Side.of(items, new InPlacePool<>(items, settings.config, settings.abandoned));
+    }
+
+    private Side zuphinka() {
+        Items items = Items.of(settings, DefaultPooledObject::new);
+        return Side.of(items, new ZuphinkaPool<>(items, settings.config, settings.abandoned) {
             @Override
             protected void swallowed(Exception failure) {
                 ours.swallow(failure);
@@ -56,8 +66,22 @@ final class Comparison {
             texts.add(call.text(0));
             return true;
         }
+        // The rules look at the end of a call, and an object that fails its test there ends no addObjects.
+        boolean isUnclear = call.isOf(Call.Kind.ADD_TWO) && pool.getTestOnCreate();
+        if (isUnclear || call.isChange() && isLeftOut(Change.of(call))) {
+            return true;
+        }
         List<Integer> objects = objectsFor(call);
         return objects.isEmpty() || compare(call, objects.get(call.chance % objects.size()));
+    }
+
+    /** Returns whether the pages name a difference in what a change does, or only Commons Pool has its setter. */
+    private boolean isLeftOut(Change change) {
+        // In Commons Pool idle objects keep their positions when lifo changes.
+        boolean isReordered = pool.getNumIdle() > 0 && change.changesOrder(pool.getLifo());
+        // The messages of ZuphinkaPool are others, and without a policy it has that of the core.
+        boolean isNamed = !settings.isInPlace && change.isBad();
+        return isReordered || isNamed || !ours.properties().has(change.setter);
     }
 
     /** Returns the objects that a call may be about, or any one if it is about none. */
@@ -65,14 +89,14 @@ final class Comparison {
         if (call.isForHeld()) {
             return held;
         }
-        IntStream others = IntStream.range(Item.FOREIGN, call.isForOther() ? ours.items.size() : 0);
+        IntStream others = IntStream.range(Item.NONE, call.isForOther() ? ours.items.size() : 0);
         return others.filter(number -> !held.contains(number)).boxed().collect(Collectors.toList());
     }
 
     private boolean compare(Call call, int number) {
         library.make(call, number);
         ours.make(call, number);
-        Step step = new Step(settings, call, number, library, ours.outcome());
+        Step step = new Step(settings, call, number, library, ours);
         for (Difference difference : Difference.values()) {
             if (difference.rule.test(step)) {
                 met.merge(difference, 1, Integer::sum);
@@ -82,7 +106,8 @@ final class Comparison {
         noteHolder(call, number, step.got);
         texts.add(call.text(number) + " = " + step.got);
         if (!step.isSame()) {
-            fault = "expected: " + step.expected() + "\n     got: " + step.got;
+            fault = "expected: " + step.expected() + " " + step.expected().differing(step.got)
+                    + "\n     got: " + step.got + " " + step.got.differing(step.expected());
         }
         return fault == null && !step.isLast();
     }

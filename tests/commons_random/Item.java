@@ -2,6 +2,8 @@
 final class Item {
     /** The number of one that is of no pool. */
     static final int FOREIGN = -1;
+    /** Stands for null. */
+    static final int NONE = -2;
 
     final int number;
 
@@ -17,5 +19,10 @@ final class Item {
     @Override
     public int hashCode() {
         return 1;
+    }
+
+    @Override
+    public String toString() {
+        return "" + number;
     }
 }

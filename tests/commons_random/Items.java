@@ -1,15 +1,21 @@
 import java.util.ArrayList;
 import java.util.List;
+import java.util.Map;
+import java.util.NoSuchElementException;
+import java.util.TreeMap;
 import java.util.function.Function;
+import java.util.stream.Collectors;
 import org.apache.commons.pool2.BasePooledObjectFactory;
 import org.apache.commons.pool2.DestroyMode;
 import org.apache.commons.pool2.PooledObject;
 
 /** A factory that fails as the settings of its run say, and notes each of its calls. It inherits all methods that it need not have. */
 class Items extends BasePooledObjectFactory<Item> {
-    private final Settings settings;
+    final Settings settings;
     private final Function<Item, PooledObject<Item>> wrapper;
     private final List<Item> made = new ArrayList<>();
+    /** The wrappers of the objects, by their numbers. */
+    private final Map<Integer, PooledObject<Item>> wrappers = new TreeMap<>();
     private final List<Callback> callbacks = new ArrayList<>();
     private Call call;
 
@@ -46,7 +52,17 @@ class Items extends BasePooledObjectFactory<Item> {
 
     /** Returns an object that was made, or one that is of no pool. */
     Item item(int number) {
-        return number == Item.FOREIGN ? new Item(number) : made.get(number);
+        return number == Item.NONE ? null : number == Item.FOREIGN ? new Item(number) : made.get(number);
+    }
+
+    /** Returns the states of the objects, as their wrappers say. */
+    String states() {
+        return wrappers.entrySet().stream().map(entry -> entry.getKey() + " " + entry.getValue().getState()).collect(Collectors.joining(", "));
+    }
+
+    /** Leaves an object out of them. */
+    void forgetState(int number) {
+        wrappers.remove(number);
     }
 
     /** Returns the call of the factory that comes next for an object. */
@@ -61,9 +77,25 @@ class Items extends BasePooledObjectFactory<Item> {
         Callback callback = next(method, number);
         callbacks.add(callback);
         if (callback.end == Callback.End.THROWS) {
-            throw number % 2 == 0 && method != Callback.Method.VALIDATE ? new Exception("" + callback) : new IllegalArgumentException("" + callback);
+            throw failure(callback);
         }
         return callback.end;
+    }
+
+    /** Returns what a call of the factory throws. Some are those of a pool: the factory may have its objects from another one. */
+    static Exception failure(Callback callback) {
+        switch (callback.number % 6) {
+            case 0:
+                return new IllegalArgumentException("" + callback);
+            case 1:
+                return new NoSuchElementException("Pool exhausted");
+            case 2:
+                return new IllegalStateException("Pool not open");
+            case 3:
+                return callback.is(Callback.Method.VALIDATE) ? new RuntimeException() : new InterruptedException("" + callback);
+            default:
+                return callback.is(Callback.Method.VALIDATE) ? new NullPointerException() : new Exception("" + callback);
+        }
     }
 
     @Override
@@ -80,7 +112,9 @@ class Items extends BasePooledObjectFactory<Item> {
 
     @Override
     public final PooledObject<Item> wrap(Item item) {
-        return wrapper.apply(item);
+        PooledObject<Item> pooled = wrapper.apply(item);
+        wrappers.put(item.number, pooled);
+        return pooled;
     }
 
     /** One that also tests and destroys. */

@@ -2,6 +2,7 @@ import java.util.ArrayList;
 import java.util.Comparator;
 import java.util.List;
 import java.util.Map;
+import java.util.TreeMap;
 
 /**
  * What came of a call: its result or what it threw, the calls of the factory in their order, what the pool told whoever receives swallowed exceptions,
@@ -18,8 +19,12 @@ final class Outcome {
     final List<String> swallowed;
     /** The numbers of objects, and by how much each count grew. */
     final Map<String, Long> numbers;
+    /** The properties of the pool, and its objects. */
+    private final Map<String, String> properties;
 
-    Outcome(String result, Integer lent, List<Callback> callbacks, List<String> swallowed, Map<String, Long> numbers) {
+    Outcome(String result, Integer lent, List<Callback> callbacks, List<String> swallowed, Map<String, Long> numbers,
+            Map<String, String> properties) {
+        this.properties = properties;
         this.result = result;
         this.lent = lent;
         this.callbacks = sorted(callbacks);
@@ -49,8 +54,21 @@ final class Outcome {
         return numbers.get(name);
     }
 
+    /** Leaves a property out of the comparison. */
+    void leaveOut(String property) {
+        properties.remove(property);
+    }
+
     boolean isSame(Outcome other) {
-        return toString().equals(other.toString());
+        return toString().equals(other.toString()) && differing(other).isEmpty();
+    }
+
+    /** Returns the properties that another outcome has with other values. What a pool does not have is not compared. */
+    Map<String, String> differing(Outcome other) {
+        Map<String, String> differing = new TreeMap<>(properties);
+        differing.keySet().retainAll(other.properties.keySet());
+        differing.entrySet().removeAll(other.properties.entrySet());
+        return differing;
     }
 
     @Override

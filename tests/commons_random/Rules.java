@@ -13,7 +13,7 @@ final class Rules {
     /** Commons Pool has lost the place of an added object that was not passivated. */
     static boolean mendAdd(Step step) {
         Callback last = last(step);
-        boolean isMet = step.call.isOf(Call.Kind.ADD) && last != null && last.isBad(Callback.Method.PASSIVATE);
+        boolean isMet = step.call.isOf(Call.Kind.ADD, Call.Kind.ADD_TWO) && last != null && last.isBad(Callback.Method.PASSIVATE);
         if (isMet) {
             step.invalidate(last.number);
         }
@@ -25,6 +25,7 @@ final class Rules {
         Callback last = last(step);
         boolean isMet = step.call.isOf(Call.Kind.RETURN) && last != null && last.hasThrown(Callback.Method.VALIDATE);
         if (isMet) {
+            step.library.properties().forget("getMeanActiveTimeMillis"); // it leaves out this loan
             step.invalidate(last.number);
             step.expected().result = "done";
             step.expected().add("returned", 1);
@@ -51,19 +52,21 @@ final class Rules {
         List<Callback> all = step.got.callbacks;
         boolean hasThrown = begun.stream().anyMatch(call -> call.hasThrown(Callback.Method.VALIDATE) || call.hasThrown(Callback.Method.DESTROY));
         boolean isMet = step.call.isOf(Call.Kind.EVICT) && hasThrown && !step.expected().result.equals("done");
+        boolean isThrown = step.settings.isInPlace;
         boolean isBegunAlike = all.size() >= begun.size() && all.subList(0, begun.size()).equals(begun);
-        return isMet && isBegunAlike && step.got.result.equals("done") && step.accept();
+        return isMet && isBegunAlike && step.got.result.equals(isThrown ? step.expected().result : "done") && step.accept();
     }
 
-    /** Commons Pool has lost a place if it was given no object. */
+    /** Commons Pool has lost a place if it was given no object, which it may have counted. */
     static boolean freePlaceOfNull(Step step) {
         Callback last = last(step);
         boolean isMet = last != null && last.end == Callback.End.NULL;
         if (isMet) {
-            boolean isCounted = step.expected().result.startsWith("NullPointerException");
+            long made = step.expected().callbacks.stream().filter(callback -> callback.isGood(Callback.Method.MAKE)).count();
             step.expected().result = "NullPointerException: makeObject() returned null";
-            step.expected().add("created", isCounted ? 0 : 1);
-            step.expected().add("destroyed", 1);
+            step.expected().leaveOut(Side.MESSAGE);
+            step.expected().numbers.put("created", step.settings.isInPlace ? made : made + 1);
+            step.expected().add("destroyed", step.settings.isInPlace ? 0 : 1);
             step.setLast();
         }
         return isMet;
@@ -75,7 +78,8 @@ final class Rules {
     }
 
     static boolean countFailedMake(Step step) {
-        boolean isMet = step.expected().callbacks.stream().anyMatch(callback -> callback.hasThrown(Callback.Method.MAKE));
+        boolean hasThrown = step.expected().callbacks.stream().anyMatch(callback -> callback.hasThrown(Callback.Method.MAKE));
+        boolean isMet = hasThrown && !step.settings.isInPlace;
         if (isMet) {
             expectCreatedAndDestroyed(step);
         }
@@ -87,7 +91,8 @@ final class Rules {
         boolean isMet = test != null && test.hasThrown(Callback.Method.VALIDATE) && step.call.isBorrow();
         if (isMet) {
             expectDestruction(step, test.number);
-            step.expected().result = "NoSuchElementException: Unable to validate object from " + test;
+            step.expected().result = "NoSuchElementException: Unable to validate object from " + Side.text(Items.failure(test));
+            step.expected().leaveOut(Side.MESSAGE);
         }
         return isMet;
     }
@@ -98,6 +103,7 @@ final class Rules {
         if (isMet) {
             expectDestruction(step, test.number);
             step.expected().result = "NoSuchElementException: Unable to validate object";
+            step.expected().leaveOut(Side.MESSAGE);
             step.expected().numbers.put("interrupted", step.call.isInterrupted() ? 1L : 0L); // Commons Pool waits
         }
         return isMet;
@@ -116,12 +122,13 @@ final class Rules {
     private static Callback failedTestOfNew(Step step) {
         List<Callback> callbacks = step.expected().callbacks;
         Callback last = last(step);
-        boolean isNew = step.settings.config.getTestOnCreate() && callbacks.size() > 1 && callbacks.get(callbacks.size() - 2).isGood(Callback.Method.MAKE);
+        boolean isNew = step.is("getTestOnCreate") && callbacks.size() > 1 && callbacks.get(callbacks.size() - 2).isGood(Callback.Method.MAKE);
         return isNew && last.isBad(Callback.Method.VALIDATE) ? last : null;
     }
 
     private static void expectDestruction(Step step, int number) {
         step.expected().callbacks.add(step.destruction(number));
+        step.forgetState(number);
         expectCreatedAndDestroyed(step);
     }
 
@@ -147,7 +154,7 @@ final class Rules {
 
     static boolean reverseOrder(Step step) {
         List<Callback> callbacks = step.expected().callbacks;
-        boolean isMet = step.call.isOf(Call.Kind.CLEAR, Call.Kind.CLOSE) && step.settings.config.getLifo() && callbacks.size() > 1;
+        boolean isMet = step.call.isOf(Call.Kind.CLEAR, Call.Kind.CLOSE) && step.is("getLifo") && callbacks.size() > 1;
         if (isMet) {
             Collections.reverse(callbacks);
         }
@@ -183,8 +190,11 @@ final class Rules {
     }
 
     static boolean keepMinIdle(Step step) {
-        boolean isUnlimited = step.settings.config.getMaxIdle() < 0 && step.settings.config.getMinIdle() > 0;
-        boolean isFilled = step.call.isOf(Call.Kind.PREPARE) && step.expected().number("created") == 0 && step.got.number("created") > 0;
+        boolean isUnlimited = (int) step.ours.properties().get("getMaxIdle") < 0 && (int) step.ours.properties().get("getMinIdle") >= 0;
+        if (isUnlimited) {
+            step.expected().leaveOut("getMinIdle"); // in Commons Pool it is negative too
+        }
+        boolean isFilled = step.call.isOf(Call.Kind.PREPARE) && step.expected().callbacks.isEmpty() && !step.got.callbacks.isEmpty();
         boolean isKept = step.call.isOf(Call.Kind.EVICT) && step.expected().number("evicted") > step.got.number("evicted");
         return isUnlimited && (isFilled || isKept) && step.accept();
     }

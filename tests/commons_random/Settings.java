@@ -1,3 +1,5 @@
+import java.io.PrintWriter;
+import java.io.StringWriter;
 import java.time.Duration;
 import java.util.ArrayList;
 import java.util.EnumMap;
@@ -22,8 +24,13 @@ final class Settings {
     private static final Duration LIMIT = Duration.ofMinutes(90);
     private static final Duration LONG_LIMIT = LIMIT.plusHours(1);
     private static final int UNLIMITED = Integer.MAX_VALUE;
+    /** What pools log of abandoned objects. */
+    static final StringWriter LOG = new StringWriter();
 
-    final GenericObjectPoolConfig<Item> config = new GenericObjectPoolConfig<>();
+    /** Whether the pool beside the library's is the class in its place, and not {@code ZuphinkaPool}. */
+    final boolean isInPlace;
+    /** With these settings a pool is made. */
+    final GenericObjectPoolConfig<Item> config;
     final AbandonedConfig abandoned;
     final Hooks hooks;
     /** How many of a hundred calls of each method fail. */
@@ -32,12 +39,12 @@ final class Settings {
     private final boolean isRough;
     private final Map<Call.Kind, Integer> weights = new EnumMap<>(Call.Kind.class);
 
-    Settings(Random random) {
-        chooseLimits(random);
-        chooseTests(random);
+    Settings(Random random, boolean isInPlace) {
+        this.isInPlace = isInPlace;
+        config = config(random);
         abandoned = random.nextInt(4) == 0 ? abandoned(random) : null;
         hooks = one(random, Hooks.MAKE, Hooks.TEST, Hooks.ALL, Hooks.ALL, Hooks.ALL);
-        isRough = random.nextInt(5) == 0;
+        isRough = random.nextInt(3) == 0;
         boolean isFailing = random.nextInt(5) > 0;
         for (Callback.Method method : Callback.Method.values()) {
             failing.put(method, isFailing ? one(random, 0, 0, 2, 10, 40) : 0);
@@ -46,11 +53,19 @@ final class Settings {
     }
 
     @SafeVarargs
-    private static <E> E one(Random random, E... all) {
+    static <E> E one(Random random, E... all) {
         return all[random.nextInt(all.length)];
     }
 
-    private void chooseLimits(Random random) {
+    /** Returns settings of pools. A limit of waits is never left out, since with one thread nobody would end the wait. */
+    static GenericObjectPoolConfig<Item> config(Random random) {
+        GenericObjectPoolConfig<Item> config = new GenericObjectPoolConfig<>();
+        chooseLimits(config, random);
+        chooseTests(config, random);
+        return config;
+    }
+
+    private static void chooseLimits(GenericObjectPoolConfig<Item> config, Random random) {
         config.setJmxEnabled(false);
         config.setMaxTotal(one(random, 0, 1, 1, 2, 3, 4, 5, 8, -1));
         config.setMaxIdle(one(random, 0, 1, 2, 3, 5, 8, UNLIMITED, UNLIMITED, -1));
@@ -58,25 +73,28 @@ final class Settings {
         config.setLifo(random.nextBoolean());
         config.setFairness(random.nextBoolean());
         config.setBlockWhenExhausted(random.nextBoolean());
-        config.setMaxWait(Duration.ofMillis(config.getBlockWhenExhausted() ? random.nextInt(2) : -1));
+        config.setMaxWait(Duration.ofMillis(one(random, 0, 0, 0, 1)));
     }
 
-    private void chooseTests(Random random) {
+    private static void chooseTests(GenericObjectPoolConfig<Item> config, Random random) {
         config.setTestOnBorrow(random.nextInt(3) == 0);
         config.setTestOnCreate(random.nextInt(3) == 0);
         config.setTestOnReturn(random.nextInt(3) == 0);
         config.setTestWhileIdle(random.nextBoolean());
-        config.setNumTestsPerEvictionRun(one(random, 3, 1, 2, 10, 0, -1, -2, -3));
+        config.setNumTestsPerEvictionRun(one(random, 3, 1, 2, 10, 0, -1, -2, -3, Integer.MIN_VALUE));
         config.setMinEvictableIdleTime(one(random, Duration.ofMillis(-1), Duration.ZERO, LIMIT, LIMIT, LONG_LIMIT));
         config.setSoftMinEvictableIdleTime(one(random, Duration.ofMillis(-1), Duration.ZERO, LIMIT));
     }
 
-    private static AbandonedConfig abandoned(Random random) {
+    static AbandonedConfig abandoned(Random random) {
         AbandonedConfig abandoned = new AbandonedConfig();
         abandoned.setRemoveAbandonedOnBorrow(random.nextBoolean());
         abandoned.setRemoveAbandonedOnMaintenance(random.nextBoolean());
         abandoned.setRemoveAbandonedTimeout(one(random, Duration.ZERO, LIMIT, LIMIT, LONG_LIMIT));
         abandoned.setUseUsageTracking(random.nextBoolean());
+        abandoned.setLogAbandoned(random.nextInt(4) == 0);
+        abandoned.setRequireFullStackTrace(random.nextBoolean());
+        abandoned.setLogWriter(new PrintWriter(LOG));
         return abandoned;
     }
 
@@ -87,6 +105,7 @@ final class Settings {
         weights.put(Call.Kind.INVALIDATE, one(random, 1, 5));
         weights.put(Call.Kind.USE, abandoned == null ? 1 : 6);
         weights.put(Call.Kind.ADD, one(random, 1, 5, 15));
+        weights.put(Call.Kind.ADD_TWO, 1);
         weights.put(Call.Kind.PREPARE, one(random, 1, 5));
         weights.put(Call.Kind.EVICT, one(random, 2, 10, 20));
         weights.put(Call.Kind.CLEAR, one(random, 1, 1, 4));
@@ -94,6 +113,11 @@ final class Settings {
         weights.put(Call.Kind.RETURN_OTHER, one(random, 0, 2));
         weights.put(Call.Kind.USE_OTHER, one(random, 0, 2));
         weights.put(Call.Kind.INVALIDATE_OTHER, one(random, 0, 0, 0, 0, 1));
+        int changing = one(random, 0, 1, 4);
+        weights.put(Call.Kind.SET, 4 * changing);
+        weights.put(Call.Kind.SET_ALL, changing);
+        weights.put(Call.Kind.SET_ABANDONED, abandoned == null ? changing / 2 : changing);
+        weights.put(Call.Kind.SET_OTHER, changing);
     }
 
     /** Returns random calls, the last ones of a closed pool. */
@@ -147,17 +171,21 @@ final class Settings {
 
     @Override
     public String toString() {
+        return text(config) + (abandoned == null ? "" : " " + text(abandoned)) + "; the factory has " + hooks + ", and fails in " + failing
+                + " of 100 calls";
+    }
+
+    static String text(GenericObjectPoolConfig<?> config) {
         return "maxTotal=" + config.getMaxTotal() + " maxIdle=" + config.getMaxIdle() + " minIdle=" + config.getMinIdle()
                 + " lifo=" + config.getLifo() + " fairness=" + config.getFairness() + " blockWhenExhausted=" + config.getBlockWhenExhausted()
                 + " maxWait=" + config.getMaxWaitDuration() + " testOnBorrow=" + config.getTestOnBorrow()
                 + " testOnCreate=" + config.getTestOnCreate() + " testOnReturn=" + config.getTestOnReturn()
                 + " testWhileIdle=" + config.getTestWhileIdle() + " numTestsPerEvictionRun=" + config.getNumTestsPerEvictionRun()
                 + " minEvictableIdle=" + config.getMinEvictableIdleDuration()
-                + " softMinEvictableIdle=" + config.getSoftMinEvictableIdleDuration()
-                + (abandoned == null ? "" : " " + textOf(abandoned)) + "; the factory has " + hooks + ", and fails in " + failing + " of 100 calls";
+                + " softMinEvictableIdle=" + config.getSoftMinEvictableIdleDuration();
     }
 
-    private static String textOf(AbandonedConfig abandoned) {
+    static String text(AbandonedConfig abandoned) {
         return "removeAbandonedOnBorrow=" + abandoned.getRemoveAbandonedOnBorrow()
                 + " removeAbandonedOnMaintenance=" + abandoned.getRemoveAbandonedOnMaintenance()
                 + " removeAbandonedTimeout=" + abandoned.getRemoveAbandonedTimeoutDuration()

@@ -80,8 +80,8 @@ public final class PlacedPool<T> extends GenericObjectPool<T> {
     }
 
     private int tests(int idle) {
-        int number = getNumTestsPerEvictionRun();
-        return number >= 0 ? Math.min(number, idle) : (idle - number - 1) / -number;
+        long number = getNumTestsPerEvictionRun();
+        return (int) (number >= 0 ? Math.min(number, idle) : (idle - number - 1) / -number);
     }
 
     private void place(List<PooledObject<T>> idle, int first) {
