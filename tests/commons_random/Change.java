@@ -54,7 +54,7 @@ final class Change {
     private static Change other(Random random) {
         switch (random.nextInt(5)) {
             case 0:
-                return new Change("setEvictionPolicy", random.nextInt(4) == 0 ? null : new ThirdsPolicy());
+                return new Change("setEvictionPolicy", Settings.one(random, null, new ThirdsPolicy.Erring(), new ThirdsPolicy(), new ThirdsPolicy()));
             case 1:
                 return new Change("setEvictionPolicyClassName", Settings.one(random, ThirdsPolicy.class.getName(), NO_POLICY, NO_CLASS));
             case 2:
@@ -66,9 +66,10 @@ final class Change {
         }
     }
 
-    /** Returns whether the value is null or names no policy. */
+    /** Returns whether the value is null, names no policy, or ends in an error. */
     boolean isBad() {
-        return NO_POLICY.equals(value) || NO_CLASS.equals(value) || value == null && !setter.equals("setAbandonedConfig");
+        boolean isNull = value == null && !setter.equals("setAbandonedConfig");
+        return isNull || NO_POLICY.equals(value) || NO_CLASS.equals(value) || value instanceof ThirdsPolicy.Erring;
     }
 
     /** Returns whether it changes the order of borrows from a pool with this {@code lifo}. */

@@ -79,9 +79,9 @@ final class Comparison {
     private boolean isLeftOut(Change change) {
         // In Commons Pool idle objects keep their positions when lifo changes.
         boolean isReordered = pool.getNumIdle() > 0 && change.changesOrder(pool.getLifo());
-        // The messages of ZuphinkaPool are others, and without a policy it has that of the core.
-        boolean isNamed = !settings.isInPlace && change.isBad();
-        return isReordered || isNamed || !ours.properties().has(change.setter);
+        // The messages of ZuphinkaPool are others, without a policy it has that of the core, and it throws errors of a policy.
+        boolean isOther = !settings.isInPlace && change.isBad();
+        return isReordered || isOther || !ours.properties().has(change.setter);
     }
 
     /** Returns the objects that a call may be about, or any one if it is about none. */

@@ -67,6 +67,7 @@ final class Rules {
             step.expected().leaveOut(Side.MESSAGE);
             step.expected().numbers.put("created", step.settings.isInPlace ? made : made + 1);
             step.expected().add("destroyed", step.settings.isInPlace ? 0 : 1);
+            step.expected().numbers.put("interrupted", step.call.isInterrupted() ? 1L : 0L); // Commons Pool waits after a test of null
             step.setLast();
         }
         return isMet;
