@@ -16,7 +16,7 @@ import sys
 
 from case_files import wanted_of
 from playing import differing, run, scratch, tell, write_files
-from pool_model import Pool, settings_of, verdict_of_entries, words_of
+from pool_model import Journal, Pool, settings_of, words_of
 
 LENGTH = 10_000
 WAYS = 10_000
@@ -71,18 +71,15 @@ def next_input(pool, at, chance):
     return name, *given.get(name, ())
 
 
-def lines_by_chance(settings, length):
-    """The lines of a journal, each with the pool before it."""
-    pool, chance, at = Pool(settings), Chance(1), 1000
+def journal_by_chance(settings, length):
+    pool, chance, at, lines = Pool(settings), Chance(1), 1000, []
     for position in range(length):
         at += chance.below(12)
-        asked, before = (b"close",) if position == length - 100 else next_input(pool, at, chance), pool.copy()
-        answer = pool.take(at, asked, 0)
-        yield b"%d %d %s = %s\n" % (chance.below(20), at, words_of(asked), words_of(answer)), before
-
-
-def journal_by_chance(settings, length):
-    return b"".join(line for line, _ in lines_by_chance(settings, length))
+        asked = (b"close",) if position == length - 100 else next_input(pool, at, chance)
+        answer = pool.reply(at, asked)
+        lines.append(b"%d %d %s = %s\n" % (chance.below(20), at, words_of(asked), words_of(answer)))
+        pool.step(at, asked, answer)
+    return b"".join(lines)
 
 
 def damaged(text, at, chance):
@@ -93,31 +90,32 @@ def damaged(text, at, chance):
     yield text[: at + 1] + text[at:]
 
 
-def damaged_in_way(lines, way, chance):
-    """The text of a journal damaged in this way, and how many lines at its front are the same."""
-    first, kind = way * 7919 % len(lines), way % 5
-    last, others = first, b""
+def damaged_in_way(journal, way, chance):
+    """The text of the journal damaged in this way, and the first and the last line that may be others."""
+    lines, first, kind = journal.lines, way * 7919 % len(journal.lines), way % 5
+    start, last = journal.starts[first], first
     if kind < 3:
-        others = [*damaged(lines[first], chance.below(len(lines[first])), chance)][kind]
-    elif kind == 3:
+        at = start + chance.below(len(lines[first]))
+        return [*damaged(journal.text, at, chance)][kind], first, first
+    others = []
+    if kind == 3:
         last = min(len(lines) - 1, first + chance.one_of([1, 1, 2, 10, 100]))
-        others = b"".join([lines[last], *lines[first + 1 : last], lines[first]][: last - first + 1])
-    return b"".join([*lines[:first], others, *lines[last + 1 :]]), first
+        others = [lines[last], *lines[first + 1 : last], lines[first]][: last - first + 1]
+    end = start + sum(map(len, lines[first : last + 1]))
+    return journal.text[:start] + b"".join(others) + journal.text[end:], first, last
 
 
 @functools.cache
 def journal():
-    """The lines of the journal, and the pool before each."""
-    return [*zip(*lines_by_chance(settings_of(SETTINGS), LENGTH))]
+    settings = settings_of(SETTINGS)
+    return Journal(settings, journal_by_chance(settings, LENGTH))
 
 
 def differences(pool, settings, way):
     """What differs where the journal is damaged in this way."""
-    lines, pools = journal()
-    text, first = damaged_in_way(lines, way, Chance(way))
-    model = pools[first].copy()
-    verdict = verdict_of_entries(model, text, 0, sum(map(len, lines[:first])), first) or b"legal %d\n" % model.position
-    return differing(f"way {way}", wanted_of(verdict), run(pool, "check", settings, "/dev/stdin", input=text))
+    text, first, last = damaged_in_way(journal(), way, Chance(way))
+    done = run(pool, "check", settings, "/dev/stdin", input=text)
+    return differing(f"way {way}", wanted_of(journal().verdict(text, first, last)), done)
 
 
 def main(pool, ways=WAYS):

@@ -39,8 +39,9 @@ class Sample:
         heapq.heappush(self.coming, (at, len(self.lines), self.chance.below(2**32), do, given))
 
     def ask(self, caller, at, *asked):
-        answer = self.pool.take(at, asked, 0)
+        answer = self.pool.reply(at, asked)
         self.lines.append(b"%d %d %s = %s\n" % (caller, at, words_of(asked), words_of(answer)))
+        self.pool.step(at, asked, answer)
         if answer[0] in (b"parked", b"freed", b"reclaimed"):
             for waiter in self.waiting:
                 self.later(at + 1, self.borrow, *waiter)
