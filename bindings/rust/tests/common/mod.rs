@@ -29,7 +29,7 @@ fn program() -> PathBuf {
         "{}: build the program by ./pool, or name it in ZUPHINKA_POOL",
         program.display()
     );
-    program
+    fs::canonicalize(program).unwrap()
 }
 
 /// What the program says of a journal with these settings.
@@ -98,7 +98,9 @@ pub fn judge_segments<T: AsRef<[u8]>>(settings: &str, segments: &[T]) -> String 
     for (file, segment) in files.iter().zip(segments) {
         fs::write(file, segment).unwrap();
     }
+    // Another test may remove the folder in which this process is.
     let done = Command::new(program())
+        .current_dir("/")
         .arg("check")
         .arg(settings_file)
         .args(files)
