@@ -141,6 +141,50 @@ public final class Waits extends Expectations {
         }
     }
 
+    /** A close ends the calls that wait for room while another thread stores a segment. */
+    private static void closeBesideAStore() throws Exception {
+        List<Act> acts = new ArrayList<>();
+        SlowSink sink = new SlowSink();
+        GenericObjectPoolConfig<Object> config = new GenericObjectPoolConfig<>();
+        config.setJmxEnabled(false);
+        config.setMinIdle(8);
+        ZuphinkaPool<Object> pool = new ZuphinkaPool<>(new Plain(), config, null, Journal.storedBy(sink).limit(100));
+        acts.add(() -> {
+            for (;;) {
+                pool.evict();
+            }
+        });
+        acts.add(pool::borrowObject);
+        acts.add(() -> pool.borrowObject(Duration.ofDays(1)));
+        acts.add(pool::addObject);
+        acts.add(() -> {
+            while (!pool.isClosed()) {
+                pool.preparePool();
+            }
+        });
+        FutureTask<Object> storing = begun(() -> loans(pool, 20));
+        sink.entered.await();
+        expect("a journal without room", "IllegalStateException: Journal full", within(begun(() -> untilFull(pool))));
+        List<FutureTask<Object>> waiting = new ArrayList<>();
+        for (Act act : acts) {
+            Thread[] thread = new Thread[1];
+            waiting.add(begun(() -> {
+                thread[0] = Thread.currentThread();
+                return ending(act);
+            }));
+            untilAsleep(thread);
+        }
+        FutureTask<Object> closing = begun(() -> ending(pool::close));
+        List<Object> ended = new ArrayList<>();
+        for (FutureTask<Object> call : waiting) {
+            ended.add(within(call));
+        }
+        String closed = "IllegalStateException: Pool not open";
+        expect("calls that a close ends beside a store", List.of(closed, closed, closed, closed, "done"), ended);
+        sink.told.release();
+        expect("the thread that stored it, and the close", List.of(closed, "done"), List.of(within(storing), within(closing)));
+    }
+
     /** A sink runs without the lock of the pool, also if a borrow calls it that finds no room. */
     private static void sinkBesideThePool() throws Exception {
         AtomicBoolean isBroken = new AtomicBoolean(true);
@@ -559,6 +603,7 @@ public final class Waits extends Expectations {
         arrival();
         fullJournal();
         slowSink();
+        closeBesideAStore();
         sinkBesideThePool();
         failingSink();
         endedThread();

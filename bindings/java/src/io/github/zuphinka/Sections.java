@@ -652,17 +652,20 @@ final class Sections<T> {
         }
     }
 
-    /** Stores the segment that waits. It waits for another thread that stores one: a borrow as long as for an object, other calls without an end. */
+    /**
+     * Stores the segment that waits. It waits for another thread that stores one: a borrow as long as for an object, other calls without an end. A call
+     * that needs an open pool waits no longer than until that is closed.
+     */
     private void storePending(Call<T> call) throws InterruptedException {
         if (call.kind == Core.KIND_BORROW) {
-            storeWithin(call.leftForRoom(settings));
+            storeWithin(call.leftForRoom(settings), call);
             return;
         }
         boolean isInterrupted = false;
         try {
             for (;;) {
                 try {
-                    storeWithin(Long.MAX_VALUE);
+                    storeWithin(Long.MAX_VALUE, call);
                     return;
                 } catch (InterruptedException e) {
                     isInterrupted = true;
@@ -675,10 +678,10 @@ final class Sections<T> {
         }
     }
 
-    private void storeWithin(long nanos) throws InterruptedException {
+    private void storeWithin(long nanos, Call<T> call) throws InterruptedException {
         boolean hasTurn;
         try {
-            hasTurn = journal.storePending(nanos);
+            hasTurn = journal.storePending(nanos, () -> isClosed && needsOpenPool(call.kind));
         } catch (IOException | RuntimeException e) {
             throw new IllegalStateException("Journal full", e);
         }
@@ -829,7 +832,8 @@ final class Sections<T> {
         long used = System.nanoTime() - nanosAgo;
         while (!hasNoted(member, Math.max(used, start), call)) {
             if (makeRoom(call) != Core.REPORT_ROOM_MADE) {
-                call.end = call.isGivenUp ? Core.END_CANCELLED : Core.END_JOURNAL_FULL;
+                boolean isRefused = isClosed && needsOpenPool(kind);
+                call.end = isRefused ? Core.END_CLOSED : call.isGivenUp ? Core.END_CANCELLED : Core.END_JOURNAL_FULL;
                 Ends.check(call);
             }
         }

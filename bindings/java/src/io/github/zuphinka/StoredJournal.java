@@ -5,6 +5,7 @@ import java.util.ArrayList;
 import java.util.List;
 import java.util.concurrent.TimeUnit;
 import java.util.concurrent.locks.ReentrantLock;
+import java.util.function.BooleanSupplier;
 
 /** Cuts the journal of a core in time, and stores what is cut. Where nothing else is said, the caller holds the lock of the pool. */
 final class StoredJournal {
@@ -12,6 +13,8 @@ final class StoredJournal {
     private static final long DROPPED_ENTRIES = 5_000;
     /** A cut takes time for each object, so that many entries for each are stored before a drop. */
     private static final long ENTRIES_PER_OBJECT = 8;
+    /** After how many nanoseconds a call that waits for another thread's store looks again whether its wait is over. */
+    private static final long LOOK_NANOS = 10_000_000;
 
     private final long core;
     private final Journal journal;
@@ -224,13 +227,19 @@ final class StoredJournal {
         }
     }
 
-    /** Does the same, unless another thread stores one for longer than some nanoseconds: then it returns false. */
-    boolean storePending(long nanos) throws IOException, InterruptedException {
-        if (storing.isHeldByCurrentThread() || !(storing.tryLock() || storing.tryLock(nanos, TimeUnit.NANOSECONDS))) {
+    /** Does the same, unless another thread stores one for longer than some nanoseconds, or until the wait is over: then it returns false. */
+    boolean storePending(long nanos, BooleanSupplier isOver) throws IOException, InterruptedException {
+        if (storing.isHeldByCurrentThread()) {
             return false;
         }
-        storeAndUnlock();
-        return true;
+        boolean hasTurn = storing.tryLock();
+        for (long left = nanos; !hasTurn && left >= 0 && !isOver.getAsBoolean(); left -= LOOK_NANOS) {
+            hasTurn = storing.tryLock(Math.min(left, LOOK_NANOS), TimeUnit.NANOSECONDS);
+        }
+        if (hasTurn) {
+            storeAndUnlock();
+        }
+        return hasTurn;
     }
 
     private void storeAndUnlock() throws IOException {
