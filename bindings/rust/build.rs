@@ -23,7 +23,8 @@ fn named(variable: &str) -> Option<PathBuf> {
 }
 
 fn link() -> Result<(), String> {
-    let own = Path::new(env!("CARGO_MANIFEST_DIR"));
+    // Read now: a clone may have been moved since this program was compiled.
+    let own = PathBuf::from(env::var_os("CARGO_MANIFEST_DIR").expect("cargo sets the variable"));
     let released = own.join("lib/libzuphinka.a");
     let library = named("ZUPHINKA_LIB");
     if library.is_none() && released.exists() {
