@@ -29,6 +29,7 @@ STEPS = [
     ("unchanged", ":", ""),
     ("a file with another time", "touch crates/low/src/lib.rt", ""),
     ("files that aren't sources", "cd crates/left; mkdir tests; tee -a NOTES stdout args tests/case", ""),
+    ("what editors keep beside a file", "cd crates/low/src; tee .lib.rt.swp lib.rt~ '#lib.rt#'", ""),
     ("an edit", "echo new >>crates/low/must-fail/turned.edit", ""),
     ("another crate", "echo // more >>crates/other/src/main.rt; echo 1 >crates/other/NOTES", ""),
     ("the line of another crate, the order", "sed -i 's/^other/& status=1/' crates.txt; tac crates.txt >../turned; mv ../turned crates.txt", ""),

@@ -1970,6 +1970,56 @@ static void test_close_ends_a_wait_for_a_store(void) {
   end_pool(pool);
 }
 
+/* A borrow that finds the journal full waits for no store in another thread if the settings say that no borrow waits, from the beginning or later. */
+static void test_waits_for_no_store(void) {
+  const char *settings = "journalLimit = 200\nblockWhenExhausted = false\n";
+  for (int change = 0; change < 2; change++) {
+    struct zuphinka_pool *pool = open_stored(&maker, change ? "" : settings, NULL, ZUPHINKA_POOL_JOURNAL_SEGMENTS);
+    struct waiter storing = {.pool = pool}, waiter = {.pool = pool};
+    if (change) check_error(zuphinka_pool_reconfigure(pool, settings, strlen(settings), NULL, NULL, NULL), ZUPHINKA_POOL_ERROR_NONE);
+    atomic_store(&maker.sink.called, 0);
+    atomic_store(&has_gone_on, false);
+    atomic_store(&maker.sink.is_held, true);
+    check(pthread_create(&storing.thread, NULL, lend_until_held, &storing) == 0);
+    while (atomic_load(&maker.sink.called) == 0) sleep_for(1);
+    check_error(fill_journal(pool), ZUPHINKA_POOL_ERROR_JOURNAL_FULL);
+    check(pthread_create(&waiter.thread, NULL, borrow_and_tell, &waiter) == 0);
+    for (int64_t end = milliseconds_now() + LONG / 6; !atomic_load(&has_gone_on) && milliseconds_now() < end;) sleep_for(1);
+    bool goes_on = atomic_load(&has_gone_on);
+    atomic_store(&maker.sink.is_held, false);
+    join(&storing, 1, ZUPHINKA_POOL_ERROR_NONE);
+    join(&waiter, 1, goes_on ? ZUPHINKA_POOL_ERROR_JOURNAL_FULL : ZUPHINKA_POOL_ERROR_NONE);
+    check(goes_on);
+    end_pool(pool);
+  }
+}
+
+static void *touch_until_held(void *argument) {
+  struct waiter *waiter = argument;
+  waiter->error = ZUPHINKA_POOL_ERROR_NONE;
+  while (!waiter->error && atomic_load(&maker.sink.called) == 0) waiter->error = zuphinka_pool_touch(waiter->pool, &waiter->loan);
+  return NULL;
+}
+
+/* A touch that stores a segment first notes no use if its loan ends meanwhile, also if the object is lent again. */
+static void test_ended_while_touched(void) {
+  struct zuphinka_pool *pool = open_stored(&maker, "maxTotal = 1\njournalLimit = 200\n", NULL, ZUPHINKA_POOL_JOURNAL_SEGMENTS);
+  struct zuphinka_pool_loan loan = lend(pool);
+  struct waiter touching = {.pool = pool, .loan = loan};
+  atomic_store(&maker.sink.is_held, true);
+  check(pthread_create(&touching.thread, NULL, touch_until_held, &touching) == 0);
+  while (atomic_load(&maker.sink.called) == 0) sleep_for(1);
+  give_back(pool, &loan);
+  loan = lend(pool);
+  check(loan.id == touching.loan.id);
+  uint64_t steps = counts_of(pool).steps;
+  atomic_store(&maker.sink.is_held, false);
+  join(&touching, 1, ZUPHINKA_POOL_ERROR_NOT_LENT);
+  check(counts_of(pool).steps == steps);
+  give_back(pool, &loan);
+  end_pool(pool);
+}
+
 /* A store that calls the pool. */
 static bool store_and_borrow(void *context, uint64_t first, const char *text, size_t size) {
   (void)first, (void)text, (void)size;
@@ -3082,6 +3132,8 @@ static const struct {
     TEST(waits_for_a_store_end),
     TEST(goes_on_after_a_cut),
     TEST(close_ends_a_wait_for_a_store),
+    TEST(waits_for_no_store),
+    TEST(ended_while_touched),
     TEST(store_that_borrows),
     TEST(forked),
     TEST(forked_in_a_store),

@@ -25,15 +25,23 @@ import sources
 from parts import PACKAGES, PARTS, PROOFS, QUICK, QUICK_ALONE
 
 CRATES = {"low": "", "tool": "low", "wrong": "low", "archive staticlib": "low"}
-# Notes each call. `rt ci` builds all, but for what is broken: programs, and libraries where there is none with a stamp.
+# Notes each call. `rt ci` locks the folders of all crates and builds all, but for what is broken: programs, and libraries where there is none with a
+# stamp. It waits for the file HELD once it has set aside what was built, or at its end, as HOLD says.
 RT = """#!/bin/sh
 [ $1 != version ] || { echo rattle-kit-0 logic 0; exit; }
 [ $1 != doc ] || { echo "$(dirname "$0")/../GUIDE.md"; exit; }
 echo rt $1 $(basename $PWD) $RT_JOBS >>$CALLS
-passed=0 failed=0
+hold() { [ "$HOLD" != $1 ] || { echo held >>$CALLS; until [ -e $HELD ]; do sleep 0.05; done; }; }
+passed=0 failed=0 folder=4
+for crate in $PWD/crates/*; do
+  folder=$((folder + 1))
+  eval "exec $folder<$crate"
+  flock $folder
+  rm -f $crate/out/$(basename $crate) $crate/out/lib*.a
+done
+hold begin
 for crate in $PWD/crates/*; do
   name=$(basename $crate)
-  rm -f $crate/out/$name $crate/out/lib*.a
   if [ -e $crate/src/broken ]; then
     echo "$name is refused"
     failed=$((failed + 1))
@@ -47,6 +55,7 @@ for crate in $PWD/crates/*; do
   fi
   passed=$((passed + 1))
 done
+hold end
 echo "$passed passed, $failed failed"
 exit $failed
 """
@@ -200,6 +209,14 @@ def alone(trial):
     yield "a program that is built", (["begin tool"], ["check: part 1 of 1, tool"]), (done.calls, began(done))
 
 
+def shadowed(trial):
+    """A module of another package that has the name of a tool, as Debian's python3-build has."""
+    others = trial.top.parent / "others"
+    write(others / "build.py", "")
+    done = trial.check("small", PYTHONPATH=str(others))
+    yield "beside another module build", (["1 passed, 0 failed, 0 skipped"], 0, ""), (done.lines[-1:], done.status, done.errors)
+
+
 def quickly(trial):
     """What `quick` names: all that is built, and the rest if it is named too."""
     shutil.rmtree(trial.top / "crates/archive/out", ignore_errors=True)
@@ -263,6 +280,42 @@ def jobs(trial):
         trial.check("proofs", **variables)
         yield f"the jobs of the gate with {variables}", f"rt ci repository {told}\n", trial.calls.read_text()
     os.sched_setaffinity(0, before)
+
+
+def beside(trial):
+    """No gate begins while parts work with what is built. While one works, another check removes nothing, and a build waits for what it leaves."""
+    held = trial.top.parent / "held"
+
+    def start(*words, hold=""):
+        environment = trial.environment | {"HOLD": hold, "HELD": str(held)}
+        return subprocess.Popen(words, env=environment, stdout=subprocess.PIPE, stderr=subprocess.STDOUT, text=True)
+
+    trial.lay_table([("tool", "goes on", "tool 4 0.2 1 0 0 {tool}", "tool")])
+    trial.check("tool")
+    trial.calls.write_text("")
+    first = start(trial.top / "check", "tool")
+    wait_until(lambda: "begin tool" in trial.calls.read_text())
+    second = start(trial.top / "check", "proofs", hold="begin")
+    output = first.communicate(timeout=LONGEST)[0]
+    yield "a program of a part beside another check", True, any(re.fullmatch("tool has .* // tool", line) for line in output.splitlines())
+    held.touch()
+    second.communicate(timeout=LONGEST)
+    held.unlink()
+    write(trial.top / "crates/low/src/lib.rt", "// changed\n")
+    trial.calls.write_text("")
+    first = start(trial.top / "check", "proofs", hold="end")
+    wait_until(lambda: "held" in trial.calls.read_text())
+    others = [start(trial.top / "check", "proofs"), start(sys.executable, trial.top / "tools/build.py", "tool")]
+    time.sleep(1)
+    yield "the libraries of a gate that works", True, (trial.top / "crates/low/out/rlib/low.rlib").is_dir()
+    held.touch()
+    for run in (first, *others):
+        run.communicate(timeout=LONGEST)
+        yield f"the status of {run.args[0]}", 0, run.returncode
+    yield "what is built", ["rt ci repository", "held", "rt ci repository"], trial.noted()
+    held.unlink()
+    write(trial.top / "crates/low/src/lib.rt", "// low\n")
+    trial.lay_table(GOOD)
 
 
 def failing(trial):
@@ -447,7 +500,7 @@ def table():
     yield "nothing is left out without being counted", [], silent
 
 
-WITH_ALL = (listing, alone, quickly, static, whole, jobs)
+WITH_ALL = (listing, alone, shadowed, quickly, static, whole, beside, jobs)
 INSTALLING = (skipping, installing, privileged, fetching, unattended)
 
 

@@ -7,7 +7,8 @@ version of the header. The shared library must export the functions that the C c
 links must be those of the version, it must need nothing but the system's C library, and Python must load it. first_loan.c, plain_life.c and
 shared_life.c of bindings/c/examples, copied to a folder by themselves, must compile with the flags that pkg-config prints for the archive, for the
 shared library and for a static program, and run; only those of the shared library may need it. A second install must replace each file, and leave
-nothing else. bindings/c/Makefile must build the library by tools/build.py, which isn't run here, install the same files, and compile the examples. If
+nothing else. A compiler and an `ar` with words after them serve, in a temporary folder with any name; one that isn't there is named, with status 1.
+bindings/c/Makefile must build the library by tools/build.py, which isn't run here, install the same files, and compile the examples. If
 pkg-config or make isn't installed, what needs it is skipped, which is printed. Without a library nothing is installed, with status 1.
 
 Prints each run that differs, and in the end the line 'N passed, M failed'.
@@ -141,6 +142,19 @@ def second(prefix, library):
     yield "libraries that a second install overwrites", [], kept
 
 
+def commands(folder, library):
+    """Commands of several words, a temporary folder whose name a script for `ar` can't have, and a compiler that isn't there."""
+    strange = folder / "a, \u00e9 b"
+    strange.mkdir()
+    changes = {"CC": f"env {compiler()}", "AR": "env ar", "TMPDIR": str(strange)}
+    words = sys.executable, TOP / "tools/install.py", "--library", library, "--prefix"
+    done = run(*words, folder / "strange", env=os.environ | changes)
+    yield "commands of several words", (0, b""), (done.returncode, done.stderr)
+    yield "what is installed by them", True, (folder / "strange/lib" / SHARED).is_file()
+    done = run(*words, folder / "none", env=os.environ | {"CC": "/nowhere/cc"})
+    yield "no compiler", (1, b"/nowhere/cc: No such file or directory\n"), (done.returncode, done.stderr)
+
+
 def make(*words):
     """Runs make in bindings/c, as if the library were just built."""
     return run("make", "--no-print-directory", "--old-file=library", "-C", TOP / "bindings/c", *words)
@@ -191,6 +205,7 @@ def checks(library):
         done = install(folder / "nothing", folder / "none.a")
         yield "no library", (1, True, False), (done.returncode, b"none.a: no such file" in done.stderr, (folder / "nothing").exists())
         yield from installed_files(folder / "prefix", library)
+        yield from commands(folder, library)
         if has("bindings/c/Makefile", "make"):
             yield from by_make(folder / "prefix", folder)
 

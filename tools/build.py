@@ -37,14 +37,18 @@ def free_memory():
 
 
 def held(program):
-    """Waits until nobody works in the folders of a program's crates, and keeps others out until this ends, as `rt` does."""
-    for crate in sorted(below(program)):
-        folder = os.open(TOP / "crates" / crate, os.O_RDONLY)
+    """Waits until no check proves in this clone and takes over what it has proved, and nobody works in the folders of a program's crates, and keeps
+    both out until this ends, as `rt` does."""
+    crates = [(TOP / "crates" / crate, fcntl.LOCK_EX) for crate in sorted(below(program))]
+    for path, kind in [(TOP, fcntl.LOCK_SH), *crates]:
+        folder = os.open(path, os.O_RDONLY)
         try:
-            fcntl.flock(folder, fcntl.LOCK_EX | fcntl.LOCK_NB)
+            fcntl.flock(folder, kind | fcntl.LOCK_NB)
         except BlockingIOError:
-            print(f"{program}: waits until another build or check ends, which is at {crate}", file=sys.stderr, flush=True)
-            fcntl.flock(folder, fcntl.LOCK_EX)
+            print(f"{program}: waits until another build or check ends, which is at {path.name}", file=sys.stderr, flush=True)
+            fcntl.flock(folder, kind)
+    # The sources may have changed meanwhile.
+    sources.sum_of_sources.cache_clear()
 
 
 class Work:

@@ -4,7 +4,7 @@
 
 `python3 tools/build.py zuphinka` builds the library first. FILE is libzuphinka.a, else that of crates/zuphinka/out; and the kit's liblibc_c.a,
 by which the library allocates, else that of the command `rt`. The C compiler that CC names, or cc, compiles the pool and links the shared library,
-and AR, or ar, makes the archive. Installed are
+and AR, or ar, makes the archive; either may have words after it, as in a Makefile. Installed are
 
     include/zuphinka.h, include/zuphinka_pool.h
     lib/libzuphinka.a             the library, what it allocates by, and the pool for threads
@@ -30,6 +30,7 @@ import argparse
 import os
 import pathlib
 import re
+import shlex
 import shutil
 import subprocess
 import sys
@@ -71,23 +72,32 @@ def version():
     return (TOP / "VERSION").read_text().strip()
 
 
+def command(variable, default):
+    """The words of the command that a variable names, or else of this one."""
+    return shlex.split(os.environ.get(variable, "")) or [default]
+
+
 def run(*words, **options):
     """Runs a command, whose output is shown only if it fails."""
-    done = subprocess.run(list(map(str, words)), stdout=subprocess.PIPE, stderr=subprocess.STDOUT, text=True, **options)
+    try:
+        done = subprocess.run(list(map(str, words)), stdout=subprocess.PIPE, stderr=subprocess.STDOUT, text=True, **options)
+    except OSError as error:
+        sys.exit(f"{words[0]}: {error.strerror}")
     if done.returncode:
         sys.exit(f"{words[0]}: status {done.returncode}\n{done.stdout}")
 
 
 def merge(archive, library, heap):
-    """Makes an archive of the members of two and of the pool, compiled. Members of one name stay apart."""
+    """Makes an archive of the members of two and of the pool, compiled. Members of one name stay apart. A script for `ar` can't name each path, so it
+    has names in the archive's folder alone."""
     folder = archive.parent
     pool = folder / "zuphinka_pool.o"
     for name, file in ("library.a", library), ("heap.a", heap):
         (folder / name).symlink_to(file.resolve())
     flags = ["-std=c11", "-O2", "-fPIC", "-pthread", "-Wall", "-Wextra", "-I", INCLUDE]
-    run(os.environ.get("CC", "cc"), *flags, "-c", "-o", pool, POOL)
-    parts = f"ADDLIB {folder}/library.a\nADDLIB {folder}/heap.a\nADDMOD {pool}\n"
-    run(os.environ.get("AR", "ar"), "-M", input=f"CREATE {archive}\n{parts}SAVE\nEND\n")
+    run(*command("CC", "cc"), *flags, "-c", "-o", pool, POOL)
+    parts = f"ADDLIB library.a\nADDLIB heap.a\nADDMOD {pool.name}\n"
+    run(*command("AR", "ar"), "-M", cwd=folder, input=f"CREATE {archive.name}\n{parts}SAVE\nEND\n")
 
 
 def functions(header):
@@ -100,8 +110,8 @@ def link(shared, archive, name):
     script = shared.with_name("exports.map")
     exported = "".join(f" {function};" for header in HEADERS for function in functions(header))
     script.write_text(f"{{ global:{exported} local: *; }};\n")
-    flags = ["-shared", "-fPIC", "-pthread", f"-Wl,-soname,{name}", f"-Wl,--version-script={script}", "-Wl,-Bsymbolic-functions", "-Wl,-z,defs"]
-    run(os.environ.get("CC", "cc"), *flags, "-o", shared, "-Wl,--whole-archive", archive, "-Wl,--no-whole-archive")
+    flags = ["-shared", "-fPIC", "-pthread", f"-Wl,-soname,{name}", "-Wl,-Bsymbolic-functions", "-Wl,-z,defs", "-Xlinker", f"--version-script={script}"]
+    run(*command("CC", "cc"), *flags, "-o", shared, "-Wl,--whole-archive", archive, "-Wl,--no-whole-archive")
 
 
 def put(file, folder):

@@ -22,7 +22,7 @@ import sys
 import tempfile
 import zipfile
 
-from install import INCLUDE, heap_of_kit, run, version
+from install import INCLUDE, command, heap_of_kit, run, version
 
 TOP = pathlib.Path(__file__).resolve().parent.parent
 JAVA = TOP / "bindings/java"
@@ -70,7 +70,7 @@ def compile_native(library, heap, to, *more):
     include = jdk() / "include"
     flags = ["-std=c11", "-O2", "-Wall", "-Wextra", "-Werror", "-fPIC", "-shared", "-I", include, "-I", include / "linux", "-I", INCLUDE]
     link = [f"-Wl,--version-script={JAVA}/native/exports.map", "-Wl,-z,defs"]
-    run(os.environ.get("CC", "cc"), *flags, JAVA / "native/zuphinka_jni.c", *more, library, heap, *link, "-o", to)
+    run(*command("CC", "cc"), *flags, JAVA / "native/zuphinka_jni.c", *more, library, heap, *link, "-o", to)
 
 
 def compile_classes(sources, to, *jars):

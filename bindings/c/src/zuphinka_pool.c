@@ -54,6 +54,7 @@ struct zuphinka_pool {
   uint64_t last_loan;      /* its number, which is greater than that of any place */
   uint64_t cuts;           /* how often the journal was cut */
   uint64_t low;            /* the room below which a segment is stored */
+  bool blocks;             /* of the setting blockWhenExhausted: whether a borrow waits */
   uint64_t cutter;         /* the thread that cuts the journal or stores what was cut off, which no other one may: its number and 1; 0: none */
   struct condition conditions[CONDITIONS]; /* a thread that waits for an object has that of its ticket, alone if not very many wait */
 };
@@ -66,6 +67,7 @@ struct run {
   struct moment first, at;      /* when the clock was first and last read */
   uint64_t wakes;               /* of the condition that it is to sleep on, before that */
   int64_t limit;                /* when it waits no longer, besides what the settings say */
+  const struct zuphinka_pool_loan *loan; /* whose use it notes, or null */
 };
 
 /* Settings that a pool is to have from a cut on. */
@@ -73,6 +75,7 @@ struct change {
   const char *text;
   size_t length;
   uint64_t quarter; /* of their journalLimit */
+  bool blocks;      /* of their blockWhenExhausted */
   uint64_t first;   /* once it is made: the position of the first entry with these settings */
   bool is_made;
 };
@@ -182,6 +185,7 @@ static uint32_t cut_off(struct zuphinka_pool *pool, struct change *change) {
   change->is_made = true;
   change->first = look(pool).counts.steps;
   pool->low = pool->quarter = change->quarter;
+  pool->blocks = change->blocks;
   wake_more(pool);
   return status;
 }
@@ -266,11 +270,17 @@ static bool is_refused(struct zuphinka_pool *pool, uint32_t kind) {
   return (kind == ZUPHINKA_KIND_BORROW || kind == ZUPHINKA_KIND_ADD || evicts) && look(pool).state.is_closed;
 }
 
+/* Returns until when a call waits for a cut: a borrow as long as for an object, and so not at all if the settings say that none waits. */
+static int64_t end_of_wait_for_cut(const struct zuphinka_pool *pool, const struct run *run) {
+  if (!run) return NEVER;
+  return run->start.kind == ZUPHINKA_KIND_BORROW && !pool->blocks ? AT_ONCE : end_of_wait(run);
+}
+
 /* Sleeps while another thread cuts the journal or stores what was cut off. If it is for a call, it ends once the journal was cut, or the pool refuses
  * the call, and lasts no longer than for an object. The lock is held before and after. Returns whether no thread cuts any more. */
 static bool wait_for_cut(struct zuphinka_pool *pool, const struct run *run) {
   uint64_t cuts = run ? pool->cuts : UINT64_MAX;
-  int64_t end = run ? end_of_wait(run) : NEVER;
+  int64_t end = end_of_wait_for_cut(pool, run);
   bool may_wait = pool->cutter != UINT64_C(1) + zuphinka_pool_caller();
   while (pool->cutter && pool->cuts <= cuts && may_wait && !(run && is_refused(pool, run->start.kind))) {
     may_wait = sleep_on(&pool->conditions[CUT], &pool->lock, end);
@@ -362,6 +372,7 @@ static enum zuphinka_pool_error drive(struct zuphinka_pool *pool, struct run *ru
     run->at = time_of(pool);
     run->event.at = run->at.milliseconds;
     lock(pool);
+    if (run->loan && error_of_loan(pool, run->loan)) run->event.report = ZUPHINKA_REPORT_GIVEN_UP; /* it ended meanwhile */
     status = zuphinka_advance(&pool->core, &call, &run->event, &run->next);
   }
   return error_of_end(pool, run);
@@ -437,16 +448,17 @@ enum zuphinka_pool_error zuphinka_pool_invalidate(struct zuphinka_pool *pool, st
 /* Makes a call that begins and ends no loan, for one or, if it is null, for none. Stores what it came to. */
 static enum zuphinka_pool_error call(struct zuphinka_pool *pool, uint32_t kind, const struct zuphinka_pool_loan *loan,
                                      struct zuphinka_effects *last) {
-  struct run run = {.start = {.id = loan ? loan->id : 0, .kind = kind}, .limit = NEVER};
+  struct run run = {.start = {.id = loan ? loan->id : 0, .kind = kind}, .limit = NEVER, .loan = loan};
   begin_run(pool, &run);
   lock(pool);
   keep_room(pool, &run);
   enum zuphinka_pool_error error = loan ? error_of_loan(pool, loan) : ZUPHINKA_POOL_ERROR_NONE;
   if (!error) error = drive(pool, &run);
-  bool is_gone = error == ZUPHINKA_POOL_ERROR_NOT_LENT && !error_of_loan(pool, loan); /* as in end_loan */
+  if (loan && error_of_loan(pool, loan)) error = error_of_loan(pool, loan);
+  else if (error == ZUPHINKA_POOL_ERROR_NOT_LENT) error = ZUPHINKA_POOL_ERROR_GONE; /* as in end_loan */
   unlock(pool);
   *last = run.next;
-  return is_gone ? ZUPHINKA_POOL_ERROR_GONE : error;
+  return error;
 }
 
 /* Makes such a call for no loan, and stores its count, unless the pointer is null. */
@@ -514,20 +526,26 @@ enum zuphinka_pool_error zuphinka_pool_cut(struct zuphinka_pool *pool, zuphinka_
   return error;
 }
 
+/* Reads settings from a text. Returns the error. */
+static enum zuphinka_pool_error read_settings(const char *text, size_t length, struct zuphinka_setup *setup) {
+  char key;
+  uint64_t size = 0;
+  return find_error(ZUPHINKA_END_NONE, zuphinka_settings(text, length, setup, &key, 1, &size));
+}
+
 enum zuphinka_pool_error zuphinka_pool_reconfigure(struct zuphinka_pool *pool, const char *settings, size_t length, zuphinka_pool_store *store,
                                                    void *context, uint64_t *first) {
   struct change change = {.text = settings, .length = length};
   struct zuphinka_setup setup;
-  char key;
-  uint64_t size = 0;
   if (!settings) return ZUPHINKA_POOL_ERROR_NULL_POINTER;
   bool has_store = pool->journal == ZUPHINKA_POOL_JOURNAL_SEGMENTS && !store;
   if (has_store) store = pool->host.store;
   if (has_store) context = pool->host.context;
   if (pool->journal != ZUPHINKA_POOL_JOURNAL_OFF && !store) return ZUPHINKA_POOL_ERROR_MISSING_CALLBACK;
-  enum zuphinka_pool_error error = find_error(ZUPHINKA_END_NONE, zuphinka_settings(settings, length, &setup, &key, 1, &size));
+  enum zuphinka_pool_error error = read_settings(settings, length, &setup);
   if (error) return error;
   change.quarter = setup.journal_limit / 4;
+  change.blocks = setup.block_when_exhausted;
   lock(pool);
   if (pool->journal == ZUPHINKA_POOL_JOURNAL_OFF) error = find_error(ZUPHINKA_END_NONE, cut_off(pool, &change));
   else if (wait_for_cut(pool, NULL)) error = cut_and_store(pool, store, context, NULL, &change);
@@ -548,12 +566,16 @@ static enum zuphinka_pool_error open_core(struct zuphinka_pool *pool, const char
                                      .validates = host->validate,
                                      .passivates = host->passivate,
                                      .drops_journal = pool->journal == ZUPHINKA_POOL_JOURNAL_OFF};
+  struct zuphinka_setup setup;
   cpu_set_t processors;
   uint64_t room = 0;
+  enum zuphinka_pool_error error = read_settings(settings, length, &setup);
+  if (error) return error;
   if (host->is_fair) options.max_overtakes = 0;
   uint32_t status = zuphinka_open_with(&pool->core, settings, length, &options);
   zuphinka_room(&pool->core, &room);
   pool->low = pool->quarter = (room + 1) / 4; /* the entry of the close is set aside */
+  pool->blocks = setup.block_when_exhausted;
   pool->processors = sched_getaffinity(0, sizeof processors, &processors) == 0 ? (uint64_t)CPU_COUNT(&processors) : CPU_SETSIZE;
   pool->opened = monotonic();
   pool->last_loan = UINT64_C(1) << 63;
