@@ -19,6 +19,7 @@ import java.util.NoSuchElementException;
 import java.util.Set;
 import java.util.concurrent.Callable;
 import java.util.concurrent.CompletableFuture;
+import java.util.concurrent.ConcurrentHashMap;
 import java.util.concurrent.CountDownLatch;
 import java.util.concurrent.FutureTask;
 import java.util.concurrent.TimeUnit;
@@ -704,6 +705,26 @@ public final class Calls extends Expectations {
         pool.close();
     }
 
+    /** A pool whose constructor waits for a return in another thread. */
+    private static final class Warmed extends ZuphinkaPool<String> {
+        private final Object returned;
+
+        Warmed(Texts texts) {
+            super(texts, config());
+            returned = within(begun(() -> ending(() -> returnObject(borrowObject()))));
+        }
+    }
+
+    /** A failure of another thread does not wait for the constructor, which may wait for that thread. */
+    private static void constructionBesideCalls() {
+        Texts texts = new Texts();
+        texts.passivates = new IOException("passivate");
+        Warmed pool = new Warmed(texts);
+        expect("a return that fails and that a constructor waits for", "done", pool.returned);
+        expect("its object", "0 idle, 0 active, 1 created, 1 destroyed", counts(pool));
+        pool.close();
+    }
+
     private static void abandonment() throws Exception {
         GenericObjectPoolConfig<String> config = config();
         config.setMaxTotal(1);
@@ -727,6 +748,54 @@ public final class Calls extends Expectations {
         expect("nothing is destroyed twice", "passivate", texts.asked());
         pool.close();
         write(pool);
+    }
+
+    /** Notes what it destroys. While it destroys the first abandoned object, something else is done. */
+    private static final class SlowEnds extends Plain {
+        final Set<Object> destroyed = ConcurrentHashMap.newKeySet();
+        private Act meanwhile;
+
+        @Override
+        public Object create() {
+            return new Object();
+        }
+
+        @Override
+        public void destroyObject(PooledObject<Object> pooled, DestroyMode mode) throws Exception {
+            destroyed.add(pooled.getObject());
+            if (mode == DestroyMode.ABANDONED && meanwhile != null) {
+                Act once = meanwhile;
+                meanwhile = null;
+                once.run();
+            }
+        }
+    }
+
+    /** A borrow lends no object that another one has taken from it while it destroyed abandoned ones. */
+    private static void slowDestruction() throws Exception {
+        GenericObjectPoolConfig<Object> config = new GenericObjectPoolConfig<>();
+        config.setJmxEnabled(false);
+        config.setMaxTotal(3);
+        AbandonedConfig abandoned = new AbandonedConfig();
+        abandoned.setRemoveAbandonedOnBorrow(true);
+        abandoned.setRemoveAbandonedTimeout(Duration.ofMillis(200));
+        SlowEnds factory = new SlowEnds();
+        ZuphinkaPool<Object> pool = new ZuphinkaPool<>(factory, config, abandoned);
+        List<Object> forgotten = List.of(pool.borrowObject(), pool.borrowObject());
+        pool.addObject();
+        Thread.sleep(250);
+        List<Object> others = new ArrayList<>();
+        factory.meanwhile = () -> {
+            Thread.sleep(250);
+            others.add(within(begun(pool::borrowObject)));
+        };
+        Object lent = pool.borrowObject();
+        expect("the forgotten objects are destroyed", true, factory.destroyed.containsAll(forgotten));
+        expect("a destroyed object is lent", false, factory.destroyed.contains(lent));
+        expect("two are lent", "0 idle, 2 active, 5 created, 3 destroyed", counts(pool));
+        pool.returnObject(lent);
+        pool.returnObject(others.get(0));
+        pool.close();
     }
 
     /** A lease whose object was reclaimed has the object still, and its end has no effect. */
@@ -1146,6 +1215,77 @@ public final class Calls extends Expectations {
         write(pool);
     }
 
+    /** An object that says when it was last used, which may take a while, and notes that it was asked. */
+    private static final class SlowTeller implements TrackedUse {
+        private final List<SlowTeller> asked;
+        private Instant used = Instant.EPOCH;
+        private long millis;
+
+        SlowTeller(List<SlowTeller> asked) {
+            this.asked = asked;
+        }
+
+        @Override
+        public Instant getLastUsedInstant() {
+            asked.add(this);
+            ending(() -> Thread.sleep(millis));
+            return used;
+        }
+
+        @Override
+        @Deprecated
+        public long getLastUsed() {
+            return used.toEpochMilli();
+        }
+    }
+
+    /** Returns a pool of such objects, which are abandoned after a second. */
+    private static ZuphinkaPool<SlowTeller> slowTellers(List<SlowTeller> asked) {
+        GenericObjectPoolConfig<SlowTeller> config = new GenericObjectPoolConfig<>();
+        config.setJmxEnabled(false);
+        AbandonedConfig abandoned = new AbandonedConfig();
+        abandoned.setRemoveAbandonedOnMaintenance(true);
+        abandoned.setRemoveAbandonedTimeout(Duration.ofSeconds(1));
+        return new ZuphinkaPool<>(new BasePooledObjectFactory<>() {
+            @Override
+            public SlowTeller create() {
+                return new SlowTeller(asked);
+            }
+
+            @Override
+            public PooledObject<SlowTeller> wrap(SlowTeller teller) {
+                return new DefaultPooledObject<>(teller);
+            }
+        }, config, abandoned, Journal.kept());
+    }
+
+    /** The uses count that objects report, also if the last one asked takes its time: the others are not abandoned meanwhile. */
+    private static void slowReport() throws Exception {
+        List<SlowTeller> asked = new ArrayList<>();
+        ZuphinkaPool<SlowTeller> pool = slowTellers(asked);
+        List<SlowTeller> lent = new ArrayList<>();
+        while (lent.size() < 8) {
+            lent.add(pool.borrowObject());
+        }
+        Thread.sleep(1_050);
+        lent.forEach(teller -> teller.used = Instant.now());
+        pool.evict();
+        expect("objects that are asked", 8, asked.size());
+        SlowTeller last = asked.get(asked.size() - 1);
+        Thread.sleep(300);
+        lent.stream().filter(teller -> teller != last).forEach(pool::returnObject);
+        while (pool.getNumIdle() > 0) {
+            pool.borrowObject();
+        }
+        Thread.sleep(750);
+        lent.forEach(teller -> teller.used = Instant.now());
+        last.millis = 400;
+        pool.evict();
+        expect("all are used", "0 idle, 8 active, 8 created, 0 destroyed", counts(pool));
+        pool.close();
+        write(pool);
+    }
+
     private static void countedByThreads(GenericObjectPoolConfig<Object> config) throws Exception {
         config.setMaxTotal(2);
         ZuphinkaPool<Object> pool = new ZuphinkaPool<>(new Plain(), config);
@@ -1443,7 +1583,9 @@ public final class Calls extends Expectations {
         closedAfterReplacement();
         contextOfMaintenance();
         construction();
+        constructionBesideCalls();
         abandonment();
+        slowDestruction();
         abandonedLease();
         uses();
         shortTimes();
@@ -1453,6 +1595,7 @@ public final class Calls extends Expectations {
         statesOfNew();
         trackedUse();
         earlierUse();
+        slowReport();
         refusals();
         closedAndFull();
         smallJournals();

@@ -121,6 +121,31 @@ public final class Errors extends Expectations {
         }
     }
 
+    /** Flushes the journal of a pool. */
+    private static final class FlushDiver extends Diver {
+        FlushDiver(ZuphinkaPool<Object> pool) {
+            super(pool);
+        }
+
+        @Override
+        void makeLoan() {
+            pool.flushJournal();
+        }
+    }
+
+    /** A flush on a full stack keeps no lock, neither of the pool nor of its sink. */
+    private static void refusedFlushes() throws Exception {
+        for (int number = 0; number < POOLS / 10; number++) {
+            ZuphinkaPool<Object> pool = new ZuphinkaPool<>(new Plain(), config(1), null, Journal.storedBy(segment -> {}).limit(100));
+            pool.returnObject(pool.borrowObject());
+            Thread thread = new Thread(null, new FlushDiver(pool), "diver", SMALL_STACK);
+            thread.start();
+            thread.join();
+            expect("a pool that was flushed with a full stack", "1 idle, 0 active, 1 created, 0 destroyed", afterLoan(pool));
+            expect("its close", "done", within(begun(() -> ending(pool::close))));
+        }
+    }
+
     /** Closes a pool, until that was refused so often: some frames above these a close would be done. */
     private static final class CloseDiver extends Diver {
         static final int MOST = 8;
@@ -494,6 +519,7 @@ public final class Errors extends Expectations {
         refusedCloses();
         closedWithoutMemory();
         fullStacks();
+        refusedFlushes();
         sinks();
         reports();
         for (Throwable error : List.of(new OutOfMemoryError("a call"), new IllegalArgumentException("a call"))) {

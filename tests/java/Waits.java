@@ -141,6 +141,24 @@ public final class Waits extends Expectations {
         }
     }
 
+    /** A borrow that may not wait for an object waits for no thread that stores a segment. */
+    private static void noWaitBesideAStore() throws Exception {
+        SlowSink sink = new SlowSink();
+        GenericObjectPoolConfig<Object> config = new GenericObjectPoolConfig<>();
+        config.setJmxEnabled(false);
+        config.setBlockWhenExhausted(false);
+        ZuphinkaPool<Object> pool = new ZuphinkaPool<>(new Plain(), config, null, Journal.storedBy(sink).limit(100));
+        FutureTask<Object> storing = begun(() -> loans(pool, 20));
+        sink.entered.await();
+        String full = "IllegalStateException: Journal full";
+        expect("a journal without room", full, within(begun(() -> untilFull(pool))));
+        expect("a borrow that may not wait", full, within(begun(pool::borrowObject)));
+        expect("one with a limit", full, within(begun(() -> pool.borrowObject(Duration.ofDays(1)))));
+        sink.told.release();
+        expect("the thread that stored it", "done", within(storing));
+        pool.close();
+    }
+
     /** A close ends the calls that wait for room while another thread stores a segment. */
     private static void closeBesideAStore() throws Exception {
         List<Act> acts = new ArrayList<>();
@@ -183,6 +201,54 @@ public final class Waits extends Expectations {
         expect("calls that a close ends beside a store", List.of(closed, closed, closed, closed, "done"), ended);
         sink.told.release();
         expect("the thread that stored it, and the close", List.of(closed, "done"), List.of(within(storing), within(closing)));
+    }
+
+    /** A borrow that waits for room while another thread stores a segment goes on once the journal is cut, here by changed settings. */
+    private static void cutBesideAStore() throws Exception {
+        SlowSink sink = new SlowSink();
+        ZuphinkaPool<Object> pool = pool(8, Journal.storedBy(sink).limit(100));
+        FutureTask<Object> storing = begun(() -> loans(pool, 20));
+        sink.entered.await();
+        expect("a journal without room", "IllegalStateException: Journal full", within(begun(() -> untilFull(pool))));
+        Thread[] thread = new Thread[1];
+        FutureTask<Object> waiting = begun(() -> {
+            thread[0] = Thread.currentThread();
+            return loans(pool, 1);
+        });
+        untilAsleep(thread);
+        FutureTask<Object> changing = begun(() -> ending(() -> pool.setMaxTotal(9)));
+        expect("a borrow that waits for room, once the journal is cut", "done", within(waiting));
+        sink.told.release();
+        expect("the thread that stores, and the change", List.of("done", "done"), List.of(within(storing), within(changing)));
+        pool.close();
+    }
+
+    /** No object is lent while its borrow stores a segment: while one is stored, another thread takes abandoned objects from their holders. */
+    private static void loanBesideAStore(Plain factory) throws Exception {
+        AbandonedConfig abandoned = new AbandonedConfig();
+        abandoned.setRemoveAbandonedOnMaintenance(true);
+        abandoned.setRemoveAbandonedTimeout(Duration.ofMillis(20));
+        GenericObjectPoolConfig<Object> config = new GenericObjectPoolConfig<>();
+        config.setJmxEnabled(false);
+        List<ZuphinkaPool<Object>> pools = new ArrayList<>();
+        AtomicInteger stores = new AtomicInteger();
+        Journal journal = Journal.storedBy(segment -> {
+            stores.incrementAndGet();
+            within(begun(() -> {
+                Thread.sleep(60);
+                pools.get(0).evict();
+                return "done";
+            }));
+        });
+        // So a segment is due after each step of a loan in turn.
+        for (int limit = 100; limit < 108; limit += 2) {
+            pools.clear();
+            pools.add(new ZuphinkaPool<>(factory, config, abandoned, journal.limit(limit)));
+            expect("loans with segments", "done", loans(pools.get(0), 20));
+            expect("no object is taken from its holder", "1 idle, 0 active, 1 created, 0 destroyed", counts(pools.get(0)));
+            pools.get(0).close();
+        }
+        expect("segments are stored beside loans", true, stores.get() >= 8);
     }
 
     /** A sink runs without the lock of the pool, also if a borrow calls it that finds no room. */
@@ -603,7 +669,11 @@ public final class Waits extends Expectations {
         arrival();
         fullJournal();
         slowSink();
+        noWaitBesideAStore();
         closeBesideAStore();
+        cutBesideAStore();
+        loanBesideAStore(new Plain());
+        loanBesideAStore(new Hooked());
         sinkBesideThePool();
         failingSink();
         endedThread();

@@ -114,8 +114,11 @@ final class Call<T> {
         }
     }
 
-    /** Returns for how many nanoseconds it may wait yet for room in the journal, by these settings. */
+    /** Returns for how many nanoseconds a borrow may wait yet for room in the journal, by these settings: as long as for an object. */
     long leftForRoom(CoreSettings<?> some) {
+        if (!some.config.getBlockWhenExhausted()) {
+            return 0;
+        }
         return left(moreMillis > 0 ? limitNanos : Math.min(limitNanos, some.maxWaitNanos));
     }
 

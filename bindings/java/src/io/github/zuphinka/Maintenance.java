@@ -18,12 +18,19 @@ final class Maintenance implements Runnable {
     private final Thread thread;
     private volatile boolean isStopped;
 
+    /** What tells such a thread from others. */
+    private static final class Maintainer extends Thread {
+        Maintainer(Runnable run) {
+            super(run, "zuphinka-maintenance");
+        }
+    }
+
     private Maintenance(ZuphinkaPool<?> pool, Duration pause, WeakReference<ClassLoader> context) {
         this.pool = new WeakReference<>(pool);
         this.context = context;
         this.pause = pause;
         pauseNanos = pause.getSeconds() >= TimeUnit.DAYS.toSeconds(10_000) ? Long.MAX_VALUE : Math.max(1, pause.toNanos());
-        thread = new Thread(this, "zuphinka-maintenance");
+        thread = new Maintainer(this);
         thread.setDaemon(true);
         thread.setContextClassLoader(null);
     }
@@ -33,6 +40,11 @@ final class Maintenance implements Runnable {
         Maintenance maintenance = new Maintenance(pool, pause, context);
         maintenance.thread.start();
         return maintenance;
+    }
+
+    /** Returns whether the current thread maintains a pool. */
+    static boolean isCurrent() {
+        return Thread.currentThread() instanceof Maintainer;
     }
 
     @Override

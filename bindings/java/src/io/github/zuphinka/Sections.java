@@ -653,8 +653,8 @@ final class Sections<T> {
     }
 
     /**
-     * Stores the segment that waits. It waits for another thread that stores one: a borrow as long as for an object, other calls without an end. A call
-     * that needs an open pool waits no longer than until that is closed.
+     * Stores the segment that waits. It waits for another thread that stores one: a borrow as long as for an object, other calls without an end. No
+     * call waits once the journal was cut meanwhile, nor one that needs an open pool once that is closed.
      */
     private void storePending(Call<T> call) throws InterruptedException {
         if (call.kind == Core.KIND_BORROW) {
@@ -679,13 +679,13 @@ final class Sections<T> {
     }
 
     private void storeWithin(long nanos, Call<T> call) throws InterruptedException {
-        boolean hasTurn;
+        boolean hasStored;
         try {
-            hasTurn = journal.storePending(nanos, () -> isClosed && needsOpenPool(call.kind));
+            hasStored = journal.storePending(nanos, () -> journal.cuts() != call.cuts || isClosed && needsOpenPool(call.kind));
         } catch (IOException | RuntimeException e) {
             throw new IllegalStateException("Journal full", e);
         }
-        if (!hasTurn) {
+        if (!hasStored && journal.cuts() == call.cuts) {
             throw new IllegalStateException("Journal full");
         }
     }
@@ -716,7 +716,11 @@ final class Sections<T> {
         if (call == null && (isBare || isReadied(member, of, first, caller))) {
             return member;
         }
-        return lentBy(call == null ? begunLater(first, longestNanos) : call);
+        Member<T> lent = lentBy(call == null ? begunLater(first, longestNanos) : call);
+        while (lent == null) {
+            lent = lentBy(begunLater(first, longestNanos));
+        }
+        return lent;
     }
 
     /** Begins a borrow in a section that has the lock. */
@@ -727,7 +731,7 @@ final class Sections<T> {
         return call;
     }
 
-    /** Begins a borrow that has failed to make an object ready. */
+    /** Begins a borrow again that has failed to make an object ready, or has lost one. */
     private Call<T> begunLater(long first, long longestNanos) {
         acquire();
         try {
@@ -739,8 +743,9 @@ final class Sections<T> {
         }
     }
 
-    /** Follows a borrow to its end. Returns its object. */
+    /** Follows a borrow to its end. Returns its object; null if that was taken from it while it destroyed the objects that it took itself. */
     private Member<T> lentBy(Call<T> call) throws Exception {
+        boolean isLate = call.isDone() && call.reclaimed != null;
         follow(call);
         Member<T> member = call.member;
         if (call.end == Core.END_LENT && call.error != null) {
@@ -750,7 +755,23 @@ final class Sections<T> {
         }
         Ends.check(call);
         leave(call);
-        return member;
+        return isLate && !isStillLent(member) ? null : member;
+    }
+
+    /** Returns whether an object is still lent, and then notes a use, if the journal has room for that: its holder only gets it now. */
+    private boolean isStillLent(Member<T> member) {
+        long now = System.nanoTime();
+        acquire();
+        try {
+            boolean isLent = member.isLent();
+            if (isLent && Core.step(core, timeOf(now), member.id, 0, Callers.number(), Core.INPUT_USE, 0) >= 0) {
+                journal.add(1);
+                member.use(now);
+            }
+            return isLent;
+        } finally {
+            release();
+        }
     }
 
     /**
@@ -820,9 +841,12 @@ final class Sections<T> {
         return call;
     }
 
-    /** Returns whether a lent object is abandoned by now, or soon, as far as the core knows. It takes no lock. */
+    /**
+     * Returns whether a lent object is abandoned by now as far as the core knows, or may be until the core looks, at the latest after half of the time
+     * for that. It takes no lock.
+     */
     boolean isAbandoned(Member<T> member) {
-        return member.unusedNanos(System.nanoTime()) >= settings.abandonedNanos - 2 * NANOS_OF_MILLI;
+        return member.unusedNanos(System.nanoTime()) >= settings.abandonedNanos / 2 - 2 * NANOS_OF_MILLI;
     }
 
     /** Notes that the holder of an object last used it so many nanoseconds ago, for a borrow with a limit or another call. */
@@ -917,6 +941,12 @@ final class Sections<T> {
         } catch (OutOfMemoryError e) {
             work.swallow(new IllegalStateException(e));
         }
+    }
+
+    /** Does what {@link #flush} does for a call of its own, which is refused if the stack is too full: a lock would be kept. */
+    void flushJournal() {
+        requireStack();
+        flush();
     }
 
     /** Stores all entries of a journal that is stored. */

@@ -21,8 +21,8 @@ final class StoredJournal {
     private CoreSettings<?> settings;
     /** How many entries are stored. */
     private long entries;
-    /** How often it was cut. */
-    private long cuts;
+    /** How often it was cut. It changes with the lock of the pool. */
+    private volatile long cuts;
     /** At how many entries it is looked at again. */
     private long threshold;
     /** The segments that are cut and not yet stored, or not yet returned by {@link #cutNow} if the journal is kept. More than one: settings changed. */
@@ -189,7 +189,7 @@ final class StoredJournal {
         }
     }
 
-    /** Returns how often the journal was cut. */
+    /** Returns how often the journal was cut. The caller needs no lock. */
     long cuts() {
         return cuts;
     }
@@ -227,17 +227,25 @@ final class StoredJournal {
         }
     }
 
-    /** Does the same, unless another thread stores one for longer than some nanoseconds, or until the wait is over: then it returns false. */
+    /** Does the same, unless the wait for that is over, or another thread stores one for longer than some nanoseconds: then it returns false. */
     boolean storePending(long nanos, BooleanSupplier isOver) throws IOException, InterruptedException {
-        if (storing.isHeldByCurrentThread()) {
+        if (storing.isHeldByCurrentThread() || !hasTurn(nanos, isOver)) {
             return false;
         }
+        storeAndUnlock();
+        return true;
+    }
+
+    /** Takes the turn to store segments, and returns true; or false once the wait for it is over, and after some nanoseconds at the latest. */
+    private boolean hasTurn(long nanos, BooleanSupplier isOver) throws InterruptedException {
+        long begun = System.nanoTime();
         boolean hasTurn = storing.tryLock();
-        for (long left = nanos; !hasTurn && left >= 0 && !isOver.getAsBoolean(); left -= LOOK_NANOS) {
+        for (long left = nanos; !hasTurn && left >= 0 && !isOver.getAsBoolean(); left = nanos - (System.nanoTime() - begun)) {
             hasTurn = storing.tryLock(Math.min(left, LOOK_NANOS), TimeUnit.NANOSECONDS);
         }
-        if (hasTurn) {
-            storeAndUnlock();
+        if (hasTurn && isOver.getAsBoolean()) {
+            storing.unlock();
+            return false;
         }
         return hasTurn;
     }

@@ -316,7 +316,6 @@ public class ZuphinkaPool<T> extends ConfiguredPool<T> implements ObjectPool<T>,
         }
         for (;;) {
             Member<T> member = sections.borrow(first, longestNanos);
-            sections.storeDue();
             if (isTold(member)) {
                 return member.pooled.getObject();
             }
@@ -792,16 +791,17 @@ public class ZuphinkaPool<T> extends ConfiguredPool<T> implements ObjectPool<T>,
      * #swallowed}, and the segment waits.
      *
      * @throws OutOfMemoryError if there is no memory; then nothing is cut
+     * @throws StackOverflowError if the thread has less than 120 KiB of its stack left; then nothing is stored
      */
     public void flushJournal() {
-        sections.flush();
+        sections.flushJournal();
     }
 
     /**
      * Receives each failure that no call throws: those of destructions, passivations and tests of returned or idle objects, of the maintenance
      * thread, and of a sink. It does nothing. Override it to log them. It runs without the pool's lock, in the thread whose call failed, and so in
-     * several threads at once. It may call the pool: in a thread that is in it, it is not called again. Nor is it before the constructor of a
-     * subclass has ended, except by calls in that. What it throws is ignored, since the call that failed has to be completed.
+     * several threads at once. It may call the pool: in a thread that is in it, it is not called again. Nor is it by the maintenance thread before the
+     * constructor of a subclass has ended. What it throws is ignored, since the call that failed has to be completed.
      *
      * @param failure what the factory or the sink threw; an {@link Error} as the cause of an {@link IllegalStateException}
      */
@@ -810,7 +810,9 @@ public class ZuphinkaPool<T> extends ConfiguredPool<T> implements ObjectPool<T>,
     /** Passes a failure to {@link #swallowed}, unless this thread is in it. */
     final void swallow(Throwable failure) {
         try {
-            construction.await();
+            if (Maintenance.isCurrent()) {
+                construction.await(); // another thread has the pool from the constructor, which may wait for it
+            }
             if (reporting.add(Thread.currentThread())) {
                 report(failure);
             }
