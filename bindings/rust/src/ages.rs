@@ -56,6 +56,14 @@ pub(crate) fn complete<T>(
     }
 }
 
+/// Returns the call to wake after a step, and asks for a writer of a segment, if one is due.
+fn after_step<T>(state: &mut LockedPool<T>) -> Wakes {
+    let mut wakes = Wakes::default();
+    wakes.push(state.next_wake());
+    state.care_for_journal();
+    wakes
+}
+
 /// Ends the program if an answer of the core does not fit its input.
 #[cold]
 pub(crate) fn unexpected(input: Input, answer: Answer) -> ! {
@@ -65,10 +73,14 @@ pub(crate) fn unexpected(input: Input, answer: Answer) -> ! {
 impl<M: Manager> Shared<M> {
     /// Frees the lock after a step, and wakes the calls that may find something.
     pub fn leave_after_step(&self, mut state: Held<'_, M>) {
-        let mut wakes = Wakes::default();
-        wakes.push(state.next_wake());
-        state.care_for_journal();
+        let wakes = after_step(&mut state);
         self.leave(state, wakes);
+    }
+
+    /// Does the same before work on an object, for which others may wait: a later call writes the segment.
+    pub fn leave_to_work(&self, mut state: Held<'_, M>) {
+        let wakes = after_step(&mut state);
+        self.leave_with_loan(state, wakes);
     }
 
     /// Destroys an object, and frees its place.
@@ -104,7 +116,7 @@ impl<M: Manager> Shared<M> {
             answer => unexpected(too_old, answer),
         }
         state.measures.loans.count(loan.object.lent, at.nanos);
-        self.leave_after_step(state);
+        self.leave_to_work(state);
         self.end_object(caller, loan);
         Returned::Destroyed
     }
@@ -164,7 +176,10 @@ impl<M: Manager> Shared<M> {
             }
             answer => unexpected(Input::EvictNext, answer),
         };
-        self.leave_after_step(state);
+        match examined {
+            Some(Some(_)) => self.leave_to_work(state),
+            _ => self.leave_after_step(state),
+        }
         Ok(examined)
     }
 

@@ -166,6 +166,7 @@ impl<M: Manager> Course<M> {
     }
 
     /// Does under the lock what the call does next, as far as that can be done there, and frees the lock. If it is to sleep then, the waker is taken.
+    /// Only a call that is over, and lends nothing, writes a segment then: another one has what others wait for, or waits before them.
     pub fn settle(&mut self, pool: &Shared<M>, mut state: Held<'_, M>, waker: &mut Option<Waker>) {
         let mut wakes = Wakes::default();
         loop {
@@ -176,8 +177,8 @@ impl<M: Manager> Course<M> {
         }
         state.care_for_journal();
         match self.call.action() {
-            Action::Done(End::Lent) => pool.leave_with_loan(state, wakes),
-            _ => pool.leave(state, wakes),
+            Action::Done(end) if end != End::Lent => pool.leave(state, wakes),
+            _ => pool.leave_with_loan(state, wakes),
         }
     }
 

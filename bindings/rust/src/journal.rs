@@ -29,9 +29,10 @@ pub enum Journal {
     /// [`Pool::flush_journal`](crate::Pool::flush_journal) and [`Pool::reconfigure`](crate::Pool::reconfigure), and when the last handle and the
     /// last lent object are gone.
     ///
-    /// The call that uses up the half stores the segment before it returns, without the lock: a return, a poll of
-    /// [`Pool::get_async`](crate::Pool::get_async), or a borrow that has to wait. One that lends an object leaves this to the next call. Other calls
-    /// continue meanwhile. If they use up the rest, those that need room wait for the segment.
+    /// The call that uses up the half stores the segment before it returns, without the lock, once its object is idle or its place is free. One that
+    /// lends an object leaves this to the next call, and so does one that waits. Other calls continue meanwhile. If they use up the rest, those that
+    /// need room wait for the segment, or the first of them stores it if nobody does, also in a poll of
+    /// [`Pool::get_async`](crate::Pool::get_async).
     Segments(Segments),
 }
 

@@ -49,7 +49,7 @@
 //!
 //! A pool never stops lending because its journal is full: by default it drops the entries, a thousand or more at a time. [`Builder::journal`] keeps
 //! them in memory ([`Journal::Memory`]), or stores them in segments ([`Journal::Segments`]), which `pool check` checks as one journal. The call that
-//! finds a segment due stores it, also a poll or a return, unless it lends an object: then the next call does. If the journal is full, calls wait for
+//! finds a segment due stores it at its end, also a return, unless it lends an object: then the next call does. If the journal is full, calls wait for
 //! the thread that stores one.
 //!
 //! The settings of a pool may change while it is in use ([`Pool::reconfigure`]).

@@ -82,7 +82,7 @@ impl<M: Manager> Drop for Worked<'_, M> {
             Answer::Destroy => {}
             answer => unexpected(input, answer),
         }
-        self.pool.leave_after_step(state);
+        self.pool.leave_to_work(state);
         self.pool.end_object(self.caller, loan);
     }
 }
@@ -114,7 +114,7 @@ impl<M: Manager> Shared<M> {
         };
         let mut taken = self.worked(caller, false, loan);
         let is_tested = state.setup.settings.test_on_borrow;
-        self.leave_after_step(state);
+        self.leave_to_work(state);
         let activated = taken.activate();
         match activated.and_then(|()| taken.validate(is_tested)) {
             Ok(()) => Ok(self.lend(taken, at)),
@@ -155,7 +155,7 @@ impl<M: Manager> Shared<M> {
         }
         let mut returned = self.worked(caller, true, loan);
         let is_tested = state.setup.settings.test_on_return;
-        self.leave(state, Wakes::default());
+        self.leave_with_loan(state, Wakes::default());
         let tested = returned.validate(is_tested);
         match tested.and_then(|()| returned.passivate()) {
             Ok(()) => Ok(self.park(returned)),
@@ -179,7 +179,7 @@ impl<M: Manager> Shared<M> {
                 Returned::Parked
             }
             Answer::Destroy => {
-                self.leave_after_step(state);
+                self.leave_to_work(state);
                 self.end_object(passive.caller, loan);
                 Returned::Destroyed
             }

@@ -58,7 +58,7 @@ impl<M: Manager> Pool<M> {
     /// [`Builder::max_overtakes`] allows, or found what it was woken for taken, a borrow queues behind it, and makes no entry meanwhile.
     ///
     /// With [`Journal::Segments`](crate::Journal::Segments) this call may store a segment. If the journal is full, it waits for the
-    /// thread that stores one, up to `maxWaitMillis` more.
+    /// thread that stores one. Both waits together are no longer than `maxWaitMillis`.
     ///
     /// An idle object that is not activated, or does not pass the test of `testOnBorrow`, is destroyed, and the borrow continues.
     ///

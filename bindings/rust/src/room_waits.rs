@@ -1,6 +1,7 @@
 //! The tasks that wait for room in the journal while a thread writes a segment.
 
 use crate::panics::unless_it_panics;
+use crate::proved_core::CallName;
 use std::task::Waker;
 
 /// The wait of a task for room in the journal.
@@ -12,51 +13,73 @@ pub(crate) struct RoomWait {
     pub number: u64,
 }
 
+/// The number of a task that waits, its waker, and its call.
+type Waiting = (u64, Waker, CallName);
+
 /// The wakers of those tasks, each under a number. Drop one without the lock: it may be code of others.
 #[derive(Debug, Default)]
 pub(crate) struct RoomWakers {
-    wakers: Vec<(u64, Waker)>,
+    wakers: Vec<Waiting>,
+    /// The numbers of those that were called, until their calls go on.
+    rung: Vec<u64>,
     /// The number of the last one.
     last: u64,
 }
 
 impl RoomWakers {
-    /// Keeps a waker. Returns its number.
+    /// Keeps the waker of a call. Returns its number.
     ///
     /// # Errors
     ///
     /// There is no memory, and the waker is returned.
-    pub fn keep(&mut self, waker: Waker) -> Result<u64, Waker> {
-        if self.wakers.try_reserve(1).is_err() {
+    pub fn keep(&mut self, waker: Waker, call: CallName) -> Result<u64, Waker> {
+        if !self.reserve() {
             return Err(waker);
         }
         self.last += 1;
-        self.wakers.push((self.last, waker));
+        self.wakers.push((self.last, waker, call));
         Ok(self.last)
     }
 
-    /// Takes the waker of a number, if it was not called.
+    /// Reserves memory for one more waker, and for the number of each. Returns whether there is enough.
+    fn reserve(&mut self) -> bool {
+        let most = self.wakers.len() + 1;
+        self.wakers.try_reserve(1).is_ok() && self.rung.try_reserve(most).is_ok()
+    }
+
+    /// A call goes on. Takes its waker by its number, if it was not called.
     pub fn take(&mut self, number: u64) -> Option<Waker> {
+        self.forget_ring(number);
         let position = self.wakers.iter().position(|one| one.0 == number)?;
         Some(self.wakers.swap_remove(position).1)
     }
 
-    /// Takes all wakers.
-    pub fn take_all(&mut self) -> Vec<(u64, Waker)> {
+    /// Returns whether a waker was called, and its call has not gone on since then. It counts as not called from now on.
+    pub fn forget_ring(&mut self, number: u64) -> bool {
+        let position = self.rung.iter().position(|rung| *rung == number);
+        let rung = position.map(|position| self.rung.swap_remove(position));
+        rung.is_some()
+    }
+
+    /// Takes all wakers, which are called.
+    pub fn take_all(&mut self) -> Vec<Waiting> {
+        self.rung.extend(self.wakers.iter().map(|one| one.0));
         std::mem::take(&mut self.wakers)
     }
 }
 
-/// Wakes tasks, without the lock. Each looks for itself, so a waker that panics takes nothing from the others.
-pub(crate) fn wake_all(wakers: Vec<(u64, Waker)>) {
-    for (_, waker) in wakers {
-        unless_it_panics(|| waker.wake());
-    }
+/// Wakes tasks, without the lock. Returns the numbers and the calls of those whose wakers panicked.
+pub(crate) fn wake_all(wakers: Vec<Waiting>) -> impl Iterator<Item = (u64, CallName)> {
+    wakers.into_iter().filter_map(|(number, waker, call)| {
+        let woken = unless_it_panics(|| waker.wake());
+        woken.is_none().then_some((number, call))
+    })
 }
 
 #[cfg(test)]
 mod tests {
     use super::{wake_all, RoomWakers};
+    use crate::proved_core::CallName;
     use std::sync::atomic::{AtomicU32, Ordering};
     use std::sync::Arc;
     use std::task::{Wake, Waker};
@@ -76,11 +99,18 @@ mod tests {
     fn all_are_woken_though_each_panics() {
         let counter = Arc::new(Broken::default());
         let mut wakers = RoomWakers::default();
-        let numbers = [(); 3].map(|()| wakers.keep(Waker::from(Arc::clone(&counter))).unwrap());
+        let numbers = [(); 3].map(|()| {
+            let waker = Waker::from(Arc::clone(&counter));
+            wakers.keep(waker, CallName::default()).unwrap()
+        });
         assert_eq!(numbers, [1, 2, 3]);
         assert!(wakers.take(2).is_some() && wakers.take(2).is_none());
-        wake_all(wakers.take_all());
+        let panicked: Vec<_> = wake_all(wakers.take_all()).map(|one| one.0).collect();
+        assert_eq!(panicked, [1, 3]);
         assert_eq!(counter.0.load(Ordering::Relaxed), 2);
+        // The first one goes on, and the last one does not.
         assert!(wakers.take(1).is_none());
+        let forgotten = [1, 3, 3].map(|number| wakers.forget_ring(number));
+        assert_eq!(forgotten, [false, true, false]);
     }
 }

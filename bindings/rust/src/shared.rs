@@ -221,7 +221,7 @@ impl<M: Manager> Shared<M> {
         }
     }
 
-    /// Does the same with an object that is lent from now on: its holder gets it at once, and a later call writes the segment.
+    /// Does the same in a call that lends an object, works on one or waits: it goes on at once, and a later call writes the segment.
     #[inline]
     pub fn leave_with_loan(&self, state: Held<'_, M>, wakes: Wakes) {
         match wakes.is_empty() {

@@ -1,6 +1,6 @@
 //! The waits of a call: for an object, and for room in the journal.
 
-use crate::call::Report;
+use crate::call::{Kind, Report};
 use crate::course::Course;
 use crate::locked_pool::{after, LockedPool};
 use crate::manager::Manager;
@@ -108,6 +108,11 @@ impl<M: Manager> Course<M> {
         Some(report_of(is_made))
     }
 
+    /// Returns whether it may wait for another thread that writes a segment: a borrow may not if the settings say that none waits for an object.
+    fn may_wait(&self, state: &LockedPool<M::Object>) -> bool {
+        self.kind != Kind::Borrow || state.setup.settings.block_when_exhausted
+    }
+
     /// Returns until when a thread waits for another one that writes a segment: as long as for an object.
     fn end_of_wait(&self, state: &LockedPool<M::Object>) -> Option<Instant> {
         let now = self.at.millis.max(state.last_time());
@@ -117,6 +122,7 @@ impl<M: Manager> Course<M> {
         };
         match self.limit {
             WaitLimit::None => Some(Instant::now()),
+            _ if !self.may_wait(state) => Some(Instant::now()),
             WaitLimit::Until(end) => set.into_iter().chain([end]).min(),
             WaitLimit::AsSet => set,
         }
@@ -131,7 +137,9 @@ impl<M: Manager> Course<M> {
         match pool.look_for_room(&mut state, self.kind, first) {
             Room::Made => Some(Report::RoomMade),
             Room::Lacks => Some(report_of(pool.write_for_room(state, first))),
-            Room::Awaited if !self.is_over(&state) => self.await_room(state, first, waker),
+            Room::Awaited if self.may_wait(&state) && !self.is_over(&state) => {
+                self.await_room(state, first, waker)
+            }
             Room::Awaited | Room::Refused => Some(Report::NoRoom),
         }
     }
@@ -144,9 +152,10 @@ impl<M: Manager> Course<M> {
         waker: &mut Option<Waker>,
     ) -> Option<Report> {
         let before = self.leave_room_wait(&mut state);
+        let call = self.call.name();
         let kept = waker
             .take()
-            .map(|waker| state.journal.room_wakers.keep(waker));
+            .map(|waker| state.journal.room_wakers.keep(waker, call));
         drop(state);
         drop_quietly(before);
         match kept? {

@@ -6,11 +6,12 @@ use crate::journal::copy_lines;
 use crate::locked_pool::LockedPool;
 use crate::manager::Manager;
 use crate::panics::unless_it_panics;
-use crate::proved_core::Core;
+use crate::proved_core::{CallName, Core};
 use crate::room_waits::wake_all;
 use crate::segments::{Segment, SegmentSink, Segments, SinkFailure};
 use crate::settings::Setup;
 use crate::shared::{Held, Shared};
+use crate::sleepers::Wakes;
 use crate::step::StepFault;
 use crate::stored_journal::{CutSegment, Mode};
 use std::io::{self, Write};
@@ -82,7 +83,20 @@ impl<M: Manager> Shared<M> {
         let wakers = state.journal.room_wakers.take_all();
         drop(state);
         self.written.notify_all();
-        wake_all(wakers);
+        for (number, call) in wake_all(wakers) {
+            self.give_room_wait_up(number, call);
+        }
+    }
+
+    /// Gives the call of a task up whose waker panicked, unless it has gone on. If it was woken for an object, another one is woken in its place.
+    #[cold]
+    fn give_room_wait_up(&self, number: u64, call: CallName) {
+        let mut state = self.lock();
+        if state.journal.room_wakers.forget_ring(number) {
+            let mut wakes = Wakes::default();
+            wakes.push(state.core.give_up(call));
+            self.leave_with_loan(state, wakes);
+        }
     }
 
     /// Takes the turn to cut the journal, and waits for the thread that has it. Fails if that is this one.

@@ -48,13 +48,17 @@ with_and_without_hooks! {
     others_continue_while_a_segment_is_written
     a_reclaim_waits_for_a_segment_as_long_as_its_borrow_may
     a_borrow_waits_for_a_segment_no_longer_than_is_set
+    a_borrow_that_may_not_wait_waits_for_no_segment
     a_close_ends_a_wait_for_a_segment
     a_wait_for_a_segment_is_a_part_of_the_wait_for_an_object
     a_task_waits_for_a_segment_without_its_thread
     a_task_that_waits_for_a_segment_is_woken_once_there_is_room
     a_task_that_waits_for_a_segment_hands_its_wake_on
+    a_task_that_hears_of_no_room_hands_its_wake_on
     a_borrow_that_waits_for_a_segment_goes_on_once_there_is_room
     a_loan_does_not_begin_before_a_segment_is_stored
+    a_returned_object_is_lent_while_a_segment_is_stored
+    a_sink_may_borrow_what_another_borrow_waits_for
     others_continue_while_a_cut_is_written
 }
 
@@ -327,6 +331,18 @@ fn use_room_up<const HOOKS: bool>(pool: &Pool<Numbers<HOOKS>>) {
     assert_eq!(refused, Some(Error::JournalFull));
 }
 
+fn a_borrow_that_may_not_wait_waits_for_no_segment<const HOOKS: bool>() {
+    let change = |builder: Builder<_>| builder.block_when_exhausted(false);
+    let answers = while_written::<HOOKS, _>(change, |pool| {
+        use_room_up(pool);
+        let of_task = error_of(&mut pool.get_async(), &Bell::new());
+        let of_threads = [pool.get(), pool.get_timeout(LONGEST)];
+        (of_threads.map(|got| got.map(drop).unwrap_err()), of_task)
+    });
+    let full = Error::JournalFull;
+    assert_eq!(answers, Ok(([full; 2], full)), "it waited for it");
+}
+
 /// The result of a call of another thread, during which something is done once that thread sleeps.
 fn while_asleep<T: Send>(call: impl FnOnce() -> T + Send, act: impl FnOnce()) -> T {
     let (begun, has_begun) = mpsc::channel();
@@ -492,6 +508,40 @@ fn a_task_that_waits_for_a_segment_hands_its_wake_on<const HOOKS: bool>() {
     });
 }
 
+fn a_task_that_hears_of_no_room_hands_its_wake_on<const HOOKS: bool>() {
+    let (slow, is_called, go_on) = Slow::new();
+    let builder = Pool::builder().max_total(1);
+    let builder = builder.journal(Journal::Segments(Segments::new(slow).limit(200)));
+    let pool = builder.build(Numbers::<HOOKS>).unwrap();
+    let held = pool.get().unwrap();
+    let bells = [(); 2].map(|()| Bell::new());
+    let mut gets = [(); 2].map(|()| pool.get_async());
+    for (get, bell) in gets.iter_mut().zip(&bells) {
+        assert!(poll(get, bell).is_pending());
+    }
+    let [mut first, mut second] = gets;
+    thread::scope(|scope| {
+        let writing = scope.spawn(|| (0..100).all(|_| pool.reclaim().is_ok()));
+        is_called.recv().unwrap();
+        while pool.room() > 0 {
+            assert_eq!(pool.reclaim(), Ok(0));
+        }
+        drop(held);
+        assert_eq!((bells[0].rings(), bells[1].rings()), (1, 0));
+        // It waits for room, and the waker that it has then panics.
+        assert!(poll_with(&mut first, &Waker::from(Arc::new(Broke))).is_pending());
+        drop(go_on);
+        assert!(writing.join().unwrap());
+    });
+    assert_eq!((bells[0].rings(), bells[1].rings()), (0, 1));
+    let object = ready(poll(&mut second, &bells[1])).unwrap();
+    // It may be polled again, and waits in its turn.
+    assert!(poll(&mut first, &bells[0]).is_pending());
+    drop(object);
+    assert_eq!(bells[0].rings(), 1);
+    drop(ready(poll(&mut first, &bells[0])).unwrap());
+}
+
 fn a_borrow_that_waits_for_a_segment_goes_on_once_there_is_room<const HOOKS: bool>() {
     let (slow, is_called, go_on) = Slow::new();
     let mut is_first = true;
@@ -552,6 +602,55 @@ fn a_loan_does_not_begin_before_a_segment_is_stored<const HOOKS: bool>() {
             drop(held);
         }
         assert!(time.load(Ordering::SeqCst) > 10_000);
+    }
+}
+
+fn a_returned_object_is_lent_while_a_segment_is_stored<const HOOKS: bool>() {
+    // So a segment is due after each step of a loan in turn, whether pairs of steps or calls take them.
+    for (limit, reclaims) in (60..70).flat_map(|limit| [(limit, false), (limit, true)]) {
+        let (slow, is_called, go_on) = Slow::new();
+        let abandoned = reclaims.then(|| Abandoned::new().on_borrow(true));
+        let builder = Pool::builder().max_total(1).abandoned(abandoned);
+        let builder = builder.journal(Journal::Segments(Segments::new(slow).limit(limit)));
+        let pool = builder.build(Numbers::<HOOKS>).unwrap();
+        let lent = thread::scope(|scope| {
+            scope.spawn(|| (0..30).for_each(|_| pair(&pool)));
+            is_called.recv().unwrap();
+            let lent = pool.get_timeout(LONGEST / 4).map(drop);
+            drop(go_on);
+            lent
+        });
+        assert_eq!(lent, Ok(()), "limit {limit}, {reclaims}");
+    }
+}
+
+fn a_sink_may_borrow_what_another_borrow_waits_for<const HOOKS: bool>() {
+    // So a segment is due after each step in turn.
+    for limit in 60..70 {
+        let own = Arc::new(Mutex::new(None::<WeakPool<Numbers<HOOKS>>>));
+        let to_own = Arc::clone(&own);
+        let fails = move || {
+            let pool = to_own.lock().unwrap().as_ref().and_then(WeakPool::upgrade);
+            pool.is_some_and(|pool| pool.get_timeout(LONGEST).is_err())
+        };
+        let (pool, stored) = pool_with_sink::<HOOKS>(|segments| segments.limit(limit), fails);
+        *own.lock().unwrap() = Some(pool.downgrade());
+        let start = Instant::now();
+        for _ in 0..20 {
+            let [first, second] = [(); 2].map(|()| pool.get().unwrap());
+            thread::scope(|scope| {
+                let waiting = scope.spawn(|| pool.get().map(drop));
+                while pool.waiting() == 0 {
+                    thread::yield_now();
+                }
+                drop(first);
+                assert_eq!(waiting.join().unwrap(), Ok(()));
+            });
+            drop(second);
+        }
+        let waited = start.elapsed();
+        assert!(waited < LONGEST, "limit {limit}: it waits for itself");
+        assert!(stored.lock().unwrap().len() > 2);
     }
 }
 
