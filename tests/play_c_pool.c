@@ -2757,7 +2757,7 @@ static void borrow_at_random(struct player *player) {
                                               : zuphinka_pool_get_timed(table->pool, 1, &loan);
   if (error) {
     bool has_none = error == ZUPHINKA_POOL_ERROR_EXHAUSTED || error == ZUPHINKA_POOL_ERROR_TIMED_OUT;
-    bool stores = table->journal == ZUPHINKA_POOL_JOURNAL_SEGMENTS && table->manner == HASTY; /* a wait may end while another thread stores */
+    bool stores = table->journal == ZUPHINKA_POOL_JOURNAL_SEGMENTS && table->manner != WAITING; /* a wait may end while another thread stores */
     bool is_late = stores && error == ZUPHINKA_POOL_ERROR_JOURNAL_FULL;
     check((has_none && table->manner != WAITING) || is_late || is_expected(table, error));
     return;
