@@ -474,7 +474,11 @@ fn a_task_that_waits_for_a_segment_is_woken_once_there_is_room<const HOOKS: bool
     assert_segments_legal(&pool, &texts_of(&stored));
 }
 
-fn a_task_that_waits_for_a_segment_hands_its_wake_on<const HOOKS: bool>() {
+/// Acts on two tasks that wait for an object, once the first is woken for it and finds no room while another thread writes a segment. The last argument
+/// ends that.
+fn with_a_task_that_lacks_room<const HOOKS: bool>(
+    act: impl FnOnce([Get<Numbers<HOOKS>>; 2], &[Arc<Bell>; 2], &mut dyn FnMut()),
+) {
     let (slow, is_called, go_on) = Slow::new();
     let builder = Pool::builder().max_total(1);
     let builder = builder.journal(Journal::Segments(Segments::new(slow).limit(200)));
@@ -485,7 +489,6 @@ fn a_task_that_waits_for_a_segment_hands_its_wake_on<const HOOKS: bool>() {
     for (get, bell) in gets.iter_mut().zip(&bells) {
         assert!(poll(get, bell).is_pending());
     }
-    let [mut first, mut second] = gets;
     thread::scope(|scope| {
         let writing = scope.spawn(|| (0..100).all(|_| pool.reclaim().is_ok()));
         is_called.recv().unwrap();
@@ -494,52 +497,42 @@ fn a_task_that_waits_for_a_segment_hands_its_wake_on<const HOOKS: bool>() {
         }
         drop(held);
         assert_eq!((bells[0].rings(), bells[1].rings()), (1, 0));
+        let mut store = Some((go_on, writing));
+        act(gets, &bells, &mut || {
+            if let Some((go_on, writing)) = store.take() {
+                drop(go_on);
+                assert!(writing.join().unwrap());
+            }
+        });
+    });
+}
+
+fn a_task_that_waits_for_a_segment_hands_its_wake_on<const HOOKS: bool>() {
+    with_a_task_that_lacks_room::<HOOKS>(|[mut first, mut second], bells, end_store| {
         assert!(poll(&mut first, &bells[0]).is_pending());
         drop(first);
         assert_eq!((bells[0].rings(), bells[1].rings()), (0, 1));
         assert!(poll(&mut second, &bells[1]).is_pending());
-        drop(go_on);
-        assert!(writing.join().unwrap());
+        end_store();
         assert!(bells[1].rings() > 0);
-        assert_eq!(
-            ready(poll(&mut second, &bells[1])).map(|number| *number),
-            Ok(0)
-        );
+        let lent = ready(poll(&mut second, &bells[1]));
+        assert_eq!(lent.map(|number| *number), Ok(0));
     });
 }
 
 fn a_task_that_hears_of_no_room_hands_its_wake_on<const HOOKS: bool>() {
-    let (slow, is_called, go_on) = Slow::new();
-    let builder = Pool::builder().max_total(1);
-    let builder = builder.journal(Journal::Segments(Segments::new(slow).limit(200)));
-    let pool = builder.build(Numbers::<HOOKS>).unwrap();
-    let held = pool.get().unwrap();
-    let bells = [(); 2].map(|()| Bell::new());
-    let mut gets = [(); 2].map(|()| pool.get_async());
-    for (get, bell) in gets.iter_mut().zip(&bells) {
-        assert!(poll(get, bell).is_pending());
-    }
-    let [mut first, mut second] = gets;
-    thread::scope(|scope| {
-        let writing = scope.spawn(|| (0..100).all(|_| pool.reclaim().is_ok()));
-        is_called.recv().unwrap();
-        while pool.room() > 0 {
-            assert_eq!(pool.reclaim(), Ok(0));
-        }
-        drop(held);
-        assert_eq!((bells[0].rings(), bells[1].rings()), (1, 0));
+    with_a_task_that_lacks_room::<HOOKS>(|[mut first, mut second], bells, end_store| {
         // It waits for room, and the waker that it has then panics.
         assert!(poll_with(&mut first, &Waker::from(Arc::new(Broke))).is_pending());
-        drop(go_on);
-        assert!(writing.join().unwrap());
+        end_store();
+        assert_eq!((bells[0].rings(), bells[1].rings()), (0, 1));
+        let object = ready(poll(&mut second, &bells[1])).unwrap();
+        // It may be polled again, and waits in its turn.
+        assert!(poll(&mut first, &bells[0]).is_pending());
+        drop(object);
+        assert_eq!(bells[0].rings(), 1);
+        drop(ready(poll(&mut first, &bells[0])).unwrap());
     });
-    assert_eq!((bells[0].rings(), bells[1].rings()), (0, 1));
-    let object = ready(poll(&mut second, &bells[1])).unwrap();
-    // It may be polled again, and waits in its turn.
-    assert!(poll(&mut first, &bells[0]).is_pending());
-    drop(object);
-    assert_eq!(bells[0].rings(), 1);
-    drop(ready(poll(&mut first, &bells[0])).unwrap());
 }
 
 fn a_borrow_that_waits_for_a_segment_goes_on_once_there_is_room<const HOOKS: bool>() {
