@@ -7,6 +7,7 @@ import java.util.List;
 import java.util.NoSuchElementException;
 import java.util.Random;
 import java.util.Set;
+import java.util.concurrent.CountDownLatch;
 import java.util.concurrent.FutureTask;
 import java.util.concurrent.atomic.AtomicInteger;
 import javax.management.MBeanServer;
@@ -419,6 +420,110 @@ public final class DropIn extends Expectations {
         }
     }
 
+    private static Object slept(long millis) {
+        return result(() -> {
+            Thread.sleep(millis);
+            return null;
+        });
+    }
+
+    /** A close waits for an eviction run, whoever makes it, and leaves no idle object alive. */
+    private static void closedDuringRun() throws Exception {
+        CountDownLatch testing = new CountDownLatch(1);
+        Counted factory = new Counted() {
+            @Override
+            public boolean validateObject(PooledObject<Object> pooled) {
+                testing.countDown();
+                slept(300);
+                return true;
+            }
+        };
+        GenericObjectPool<Object> pool = pool(factory);
+        pool.setTestWhileIdle(true);
+        pool.addObject();
+        FutureTask<Object> run = begun(() -> ending(pool::evict));
+        testing.await();
+        pool.close();
+        expect("objects alive after a close during an eviction run", 0, factory.alive.get());
+        expect("the run", "done", within(run));
+    }
+
+    /** There is one eviction run of a pool at a time, so a policy is asked by one thread. */
+    private static void oneRunAtATime() throws Exception {
+        AtomicInteger inside = new AtomicInteger();
+        AtomicInteger most = new AtomicInteger();
+        GenericObjectPool<Object> pool = pool(new Counted());
+        pool.addObjects(4);
+        pool.setEvictionPolicy((config, pooled, idle) -> {
+            most.accumulateAndGet(inside.incrementAndGet(), Math::max);
+            slept(30);
+            inside.decrementAndGet();
+            return false;
+        });
+        FutureTask<Object> first = begun(() -> ending(pool::evict));
+        FutureTask<Object> second = begun(() -> ending(pool::evict));
+        expect("two runs", List.of("done", "done"), List.of(within(first), within(second)));
+        expect("calls of the policy at once", 1, most.get());
+        pool.close();
+    }
+
+    /** A borrow that waits goes on to wait where others may wait no more. */
+    private static void waitingWhileOthersMayNot() throws Exception {
+        int refused = 0;
+        for (int round = 0; round < 100; round++) {
+            GenericObjectPool<Object> pool = pool(new Counted());
+            pool.setMaxTotal(1);
+            Object lent = pool.borrowObject();
+            FutureTask<Object> waiting = waiting(pool);
+            pool.setBlockWhenExhausted(false);
+            for (int loan = 0; loan < 20 && lent != null && !waiting.isDone(); loan++) {
+                pool.returnObject(lent);
+                Object next = result(pool::borrowObject);
+                lent = next.getClass() == Object.class ? next : null;
+            }
+            if (lent != null) {
+                pool.returnObject(lent);
+            }
+            refused += within(waiting).equals("java.lang.Object") ? 0 : 1;
+            pool.close();
+        }
+        expect("waiting borrows that were refused", 0, refused);
+    }
+
+    /** A close interrupts no borrow that does not wait. */
+    private static void closedWhileActivating() throws Exception {
+        List<GenericObjectPool<Object>> pools = new ArrayList<>();
+        GenericObjectPool<Object> pool = pool(new Counted() {
+            @Override
+            public void activateObject(PooledObject<Object> pooled) throws Exception {
+                pools.get(0).close();
+                throw new Exception("activate");
+            }
+        });
+        pools.add(pool);
+        pool.addObject();
+        expect("a borrow whose pool is closed while it activates", "IllegalStateException: Pool not open", result(pool::borrowObject));
+    }
+
+    /** The objects that eviction runs destroyed are counted one after the other. */
+    private static void evictedSoFar() throws Exception {
+        List<Object> counts = new ArrayList<>();
+        List<GenericObjectPool<Object>> pools = new ArrayList<>();
+        GenericObjectPool<Object> pool = pool(new Counted() {
+            @Override
+            public void destroyObject(PooledObject<Object> pooled, DestroyMode mode) {
+                counts.add(pools.get(0).getDestroyedByEvictorCount());
+            }
+        });
+        pools.add(pool);
+        pool.addObjects(3);
+        pool.setMinEvictableIdle(Duration.ofMillis(1));
+        slept(5);
+        pool.evict();
+        expect("evicted objects at each destruction", List.of(0L, 1L, 2L), counts);
+        pool.close();
+    }
+
     public static void main(String[] words) throws Exception {
         String place = GenericObjectPool.class.getProtectionDomain().getCodeSource().getLocation().toString();
         expect("where the class is from", words[0], place.replaceAll(".*/", ""));
@@ -439,6 +544,11 @@ public final class DropIn extends Expectations {
         noMemoryForTimes();
         unmade();
         changedByThreads();
+        closedDuringRun();
+        oneRunAtATime();
+        waitingWhileOthersMayNot();
+        closedWhileActivating();
+        evictedSoFar();
         printCounts();
     }
 }

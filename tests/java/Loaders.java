@@ -1,4 +1,5 @@
 import io.github.zuphinka.ZuphinkaPool;
+import java.lang.ref.WeakReference;
 import java.net.URL;
 import java.net.URLClassLoader;
 import java.nio.file.Path;
@@ -9,10 +10,14 @@ import org.apache.commons.pool2.PooledObject;
 import org.apache.commons.pool2.impl.DefaultPooledObject;
 
 /**
- * Uses a pool in each of two class loaders, as two applications of one server do. {@code Loaders PATH..}: the paths of the classes of this program,
+ * Uses a pool in each of two class loaders, as two applications of one server do, which end then. {@code Loaders PATH..}: the paths of the classes of this program,
  * of the library and of Commons Pool.
  */
 public final class Loaders extends Expectations {
+    private static final int MOST_COLLECTIONS = 100;
+    /** The pool of this class loader, which nobody forgets. */
+    private static ZuphinkaPool<String> kept;
+
     private Loaders() {}
 
     /** Lends an object of a new pool, and returns it. */
@@ -29,6 +34,7 @@ public final class Loaders extends Expectations {
             }
         };
         try (ZuphinkaPool<String> pool = new ZuphinkaPool<>(factory)) {
+            kept = pool;
             String lent = pool.borrowObject();
             pool.returnObject(lent);
             return lent;
@@ -43,16 +49,30 @@ public final class Loaders extends Expectations {
         }
     }
 
+    /** Uses a pool of each of two class loaders, which nobody has afterwards. */
+    private static List<WeakReference<ClassLoader>> used(URL[] all) throws Exception {
+        try (URLClassLoader first = new URLClassLoader(all, null); URLClassLoader second = new URLClassLoader(all, null)) {
+            expect("a pool of the first class loader", "text", lendIn(first));
+            expect("a pool of the second one", "text", lendIn(second));
+            return List.of(new WeakReference<>(first), new WeakReference<>(second));
+        }
+    }
+
+    private static long left(List<WeakReference<ClassLoader>> loaders) {
+        return loaders.stream().filter(loader -> loader.get() != null).count();
+    }
+
     public static void main(String[] words) throws Exception {
         List<URL> urls = new ArrayList<>();
         for (String word : words) {
             urls.add(Path.of(word).toUri().toURL());
         }
-        URL[] all = urls.toArray(new URL[0]);
-        try (URLClassLoader first = new URLClassLoader(all, null); URLClassLoader second = new URLClassLoader(all, null)) {
-            expect("a pool of the first class loader", "text", lendIn(first));
-            expect("a pool of the second one", "text", lendIn(second));
+        List<WeakReference<ClassLoader>> loaders = used(urls.toArray(new URL[0]));
+        for (int collections = 0; collections < MOST_COLLECTIONS && left(loaders) > 0; collections++) {
+            System.gc();
+            Thread.sleep(10);
         }
+        expect("class loaders that are left", 0L, left(loaders));
         printCounts();
     }
 }

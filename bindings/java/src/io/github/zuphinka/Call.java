@@ -101,6 +101,11 @@ final class Call<T> {
         return action == Core.ACTION_DONE;
     }
 
+    /** Returns whether it has waited for an object. */
+    boolean hasSlept() {
+        return thread != null;
+    }
+
     /** Returns how many of some nanoseconds since its beginning are left. */
     long left(long nanos) {
         return nanos == Long.MAX_VALUE ? nanos : Math.max(0, nanos - (System.nanoTime() - first));

@@ -21,9 +21,10 @@ abstract class ConfiguredPool<T> {
     abstract void change(UnaryOperator<CoreSettings<T>> change);
 
     /**
-     * Goes on with other settings, all of which change at once. Objects, loans and waits stay, and no call fails by it.
+     * Goes on with other settings, all of which change at once. Objects, loans and waits stay.
      *
-     * <p>Threads that wait are woken if there are more places. If there are fewer than objects, no object is taken away, and none is made until fewer are
+     * <p>Threads that wait are woken if there are more places. A borrow that waits fails if {@code blockWhenExhausted} is false by the time that it is
+     * woken and finds nothing. If there are fewer than objects, no object is taken away, and none is made until fewer are
      * present. Calls in progress run the tests that they had when they began. A thread that waits does so for the new {@code maxWait} once it is woken
      * or its time is over, unless its borrow has a limit of its own.
      *

@@ -54,10 +54,10 @@ final class Ends {
         }
     }
 
-    /** A fill of a closed pool does nothing. */
+    /** A fill of a closed pool does nothing. A call that slept has been interrupted by the close. */
     private static void checkClosed(Call<?> call) {
         if (call.kind != Core.KIND_FILL) {
-            throw new IllegalStateException("Pool not open");
+            throw new IllegalStateException("Pool not open", call.hasSlept() ? new InterruptedException("The pool was closed") : null);
         }
     }
 

@@ -1,7 +1,6 @@
 package io.github.zuphinka;
 
 import java.io.IOException;
-import java.lang.ref.Cleaner;
 import java.lang.ref.Reference;
 import java.nio.ByteBuffer;
 import java.util.concurrent.TimeUnit;
@@ -17,7 +16,6 @@ import org.apache.commons.pool2.DestroyMode;
  * that without the lock, and reports it in a further section, until it is over.
  */
 final class Sections<T> {
-    private static final Cleaner CLEANER = Cleaner.create();
     private static final long NANOS_OF_MILLI = 1_000_000;
 
     private final Work<T> work;
@@ -70,7 +68,7 @@ final class Sections<T> {
         overtakes = maxOvertakes;
         long opened = JournalRoom.open(settings, work.flags() | settings.flags(), maxOvertakes);
         core = opened;
-        CLEANER.register(this, () -> Core.drop(opened));
+        Cores.register(this, opened);
         details = JournalRoom.detailsOf(opened);
         this.journal = new StoredJournal(core, journal, settings);
     }
@@ -224,9 +222,10 @@ final class Sections<T> {
     /** Tests and passivates an object that was taken back. It is idle then, or destroyed. */
     private void putAway(Member<T> member, CoreSettings<T> of, int caller) {
         int outcome = work.putAway(member, of);
+        long now = System.nanoTime();
         acquire();
         try {
-            if (complete(Core.INPUT_PARK, member, outcome, System.nanoTime(), caller) == Core.ANSWER_PARKED) {
+            if (complete(Core.INPUT_PARK, member, outcome, now, caller) == Core.ANSWER_PARKED) {
                 wakeMore();
                 return;
             }
@@ -252,9 +251,10 @@ final class Sections<T> {
      */
     private void end(Member<T> member, boolean isReturned, int caller) {
         Throwable fault = work.destroyed(member);
+        long now = System.nanoTime();
         acquire();
         try {
-            complete(Core.INPUT_DESTROYED, member, 0, System.nanoTime(), caller);
+            complete(Core.INPUT_DESTROYED, member, 0, now, caller);
             members.remove(member);
             wakeMore();
         } finally {

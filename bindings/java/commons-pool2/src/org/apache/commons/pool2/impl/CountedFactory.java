@@ -11,7 +11,7 @@ import org.apache.commons.pool2.PooledObjectFactory;
 /** Passes the calls of a factory on, and counts the objects that are made and destroyed for a pool. It has no work to activate or passivate one. */
 class CountedFactory<T> extends BasePooledObjectFactory<T> {
     final PooledObjectFactory<T> factory;
-    private final BaseGenericObjectPool<T> pool;
+    private final GenericObjectPool<T> pool;
     private final AtomicLong making = new AtomicLong();
     /** What the eviction run of a thread throws at its end. */
     private final ThreadLocal<EvictionFailure> failures = new ThreadLocal<>();
@@ -30,7 +30,7 @@ class CountedFactory<T> extends BasePooledObjectFactory<T> {
 
     /** Has such work too. */
     private static final class Hooked<T> extends CountedFactory<T> {
-        Hooked(PooledObjectFactory<T> factory, BaseGenericObjectPool<T> pool) {
+        Hooked(PooledObjectFactory<T> factory, GenericObjectPool<T> pool) {
             super(factory, pool);
         }
 
@@ -45,12 +45,12 @@ class CountedFactory<T> extends BasePooledObjectFactory<T> {
         }
     }
 
-    private CountedFactory(PooledObjectFactory<T> factory, BaseGenericObjectPool<T> pool) {
+    private CountedFactory(PooledObjectFactory<T> factory, GenericObjectPool<T> pool) {
         this.factory = factory;
         this.pool = pool;
     }
 
-    static <T> CountedFactory<T> of(PooledObjectFactory<T> factory, BaseGenericObjectPool<T> pool) {
+    static <T> CountedFactory<T> of(PooledObjectFactory<T> factory, GenericObjectPool<T> pool) {
         boolean isBare = factory instanceof BasePooledObjectFactory && inherits(factory, "activateObject") && inherits(factory, "passivateObject");
         return isBare ? new CountedFactory<>(factory, pool) : new Hooked<>(factory, pool);
     }
@@ -77,7 +77,7 @@ class CountedFactory<T> extends BasePooledObjectFactory<T> {
             PooledObject<T> made = factory.makeObject();
             pool.createdCount.addAndGet(made == null ? 0 : 1);
             return made;
-        } catch (NoSuchElementException | IllegalStateException e) {
+        } catch (NoSuchElementException | IllegalStateException | InterruptedException e) {
             notMade.set(new WeakReference<>(e));
             throw e;
         } finally {
@@ -147,6 +147,7 @@ class CountedFactory<T> extends BasePooledObjectFactory<T> {
             throw mode == DestroyMode.ABANDONED ? e : noted(e);
         } finally {
             pool.destroyedCount.incrementAndGet();
+            pool.showCounts();
         }
     }
 

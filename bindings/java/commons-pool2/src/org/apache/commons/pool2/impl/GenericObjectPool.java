@@ -4,6 +4,7 @@ import java.time.Duration;
 import java.util.NoSuchElementException;
 import java.util.Set;
 import java.util.concurrent.TimeUnit;
+import java.util.concurrent.locks.ReentrantLock;
 import org.apache.commons.pool2.DestroyMode;
 import org.apache.commons.pool2.ObjectPool;
 import org.apache.commons.pool2.PooledObject;
@@ -28,8 +29,9 @@ import org.apache.commons.pool2.UsageTracking;
 public class GenericObjectPool<T> extends BaseGenericObjectPool<T> implements ObjectPool<T>, GenericObjectPoolMXBean, UsageTracking<T> {
     private static final String BEAN_BASE = "org.apache.commons.pool2:type=GenericObjectPool,name=";
     private static final String TIMEOUT = "Timeout waiting for idle object";
+    private static final String EXHAUSTED = "Pool exhausted";
     /** The messages of borrows that got no object. */
-    private static final Set<String> MESSAGES = Set.of("Pool exhausted", TIMEOUT, "Unable to activate object", "Unable to validate object");
+    private static final Set<String> MESSAGES = Set.of(EXHAUSTED, TIMEOUT, "Unable to activate object", "Unable to validate object");
 
     private final PooledObjectFactory<T> factory;
     private final CountedFactory<T> counted;
@@ -37,6 +39,8 @@ public class GenericObjectPool<T> extends BaseGenericObjectPool<T> implements Ob
     private volatile int maxIdle = GenericObjectPoolConfig.DEFAULT_MAX_IDLE;
     private volatile int minIdle = GenericObjectPoolConfig.DEFAULT_MIN_IDLE;
     private volatile String factoryType;
+    /** Held by an eviction run, so that there is one at a time and a close can wait for it. */
+    private final ReentrantLock evicting = new ReentrantLock();
 
     /**
      * Makes a pool with the default settings.
@@ -113,14 +117,21 @@ public class GenericObjectPool<T> extends BaseGenericObjectPool<T> implements Ob
         long first = System.nanoTime();
         assertOpen();
         pool.update();
+        boolean blocks = pool.blocks; // to the end of this borrow
         try {
-            T object = pool.borrowObject(borrowMaxWaitDuration);
+            T object = pool.borrowObject(blocks ? borrowMaxWaitDuration : Duration.ZERO);
             noteLoan(object, System.nanoTime() - first);
             return object;
         } catch (NoSuchElementException e) {
-            throw counted.isOfMake(e) ? e : none(e, borrowMaxWaitDuration);
+            throw counted.isOfMake(e) ? e : none(e, blocks ? borrowMaxWaitDuration : null);
+        } catch (InterruptedException e) {
+            if (blocks || counted.isOfMake(e)) {
+                throw e;
+            }
+            Thread.currentThread().interrupt();
+            throw new NoSuchElementException(appendStats(EXHAUSTED));
         } catch (IllegalStateException e) {
-            throw isClosed() && "Pool not open".equals(e.getMessage()) && !counted.isOfMake(e) ? closedMeanwhile(e) : e;
+            throw e.getCause() instanceof InterruptedException && !counted.isOfMake(e) ? closedMeanwhile(e) : e;
         } finally {
             pool.showCounts();
         }
@@ -137,6 +148,13 @@ public class GenericObjectPool<T> extends BaseGenericObjectPool<T> implements Ob
         return borrowObject(Duration.ofMillis(borrowMaxWaitMillis));
     }
 
+    /** Shows what the objects were destroyed for. The factory may be called before the pool is there. */
+    void showCounts() {
+        if (pool != null) {
+            pool.showCounts();
+        }
+    }
+
     /** Counts a loan, unless its object was reclaimed at once. If there is no memory its times are missing: the caller is to have the object. */
     private void noteLoan(T object, long nanos) {
         try {
@@ -149,10 +167,11 @@ public class GenericObjectPool<T> extends BaseGenericObjectPool<T> implements Ob
         }
     }
 
-    /** Returns the exception of a borrow that got no object, with the message of the library. */
+    /** Returns the exception of a borrow that got no object, with the message of the library. Without a longest wait it may not wait. */
     private NoSuchElementException none(NoSuchElementException failure, Duration longest) {
         String given = String.valueOf(failure.getMessage());
-        String message = appendStats(given.equals(TIMEOUT) ? given + ", borrowMaxWaitDuration=" + longest : given);
+        String timeout = longest == null ? EXHAUSTED : given + ", borrowMaxWaitDuration=" + longest;
+        String message = appendStats(given.equals(TIMEOUT) ? timeout : given);
         boolean isOwn = failure.getClass() == NoSuchElementException.class && MESSAGES.contains(given);
         if (!isOwn || message.equals(given)) {
             return failure;
@@ -162,7 +181,7 @@ public class GenericObjectPool<T> extends BaseGenericObjectPool<T> implements Ob
         return told;
     }
 
-    /** Returns the exception of a borrow that found the pool open, and which a close has ended. */
+    /** Returns the exception of a borrow that waited, and which a close has ended. */
     private static InterruptedException closedMeanwhile(IllegalStateException failure) {
         InterruptedException closed = new InterruptedException("The pool was closed");
         closed.initCause(failure);
@@ -274,9 +293,13 @@ public class GenericObjectPool<T> extends BaseGenericObjectPool<T> implements Ob
     public void evict() throws Exception {
         assertOpen();
         pool.update();
+        evicting.lock();
         try {
-            pool.evict();
+            if (!isClosed()) {
+                pool.evict();
+            }
         } finally {
+            evicting.unlock();
             pool.showCounts();
         }
     }
@@ -308,8 +331,11 @@ public class GenericObjectPool<T> extends BaseGenericObjectPool<T> implements Ob
     }
 
     private void closeOnce() {
+        awaitRun(); // before the monitor of the timer is held, which other pools need
         stopEvictor();
+        evicting.lock();
         closed = true;
+        evicting.unlock();
         try {
             pool.close();
         } catch (Throwable e) {
@@ -323,6 +349,12 @@ public class GenericObjectPool<T> extends BaseGenericObjectPool<T> implements Ob
                 setTimeBetweenEvictionRuns(getDurationBetweenEvictionRuns()); // starts the timer again
             }
         }
+    }
+
+    /** Waits for the eviction run that there is, if there is one. */
+    private void awaitRun() {
+        evicting.lock();
+        evicting.unlock();
     }
 
     // Settings.
@@ -405,7 +437,8 @@ public class GenericObjectPool<T> extends BaseGenericObjectPool<T> implements Ob
     // Numbers and objects.
 
     /**
-     * Returns the number of objects that are lent, or being made, activated, tested, passivated or destroyed.
+     * Returns the number of objects that are lent, or being made, activated, tested, passivated or destroyed. The library counts none that is being made
+     * or destroyed.
      *
      * @return a number from 0
      */

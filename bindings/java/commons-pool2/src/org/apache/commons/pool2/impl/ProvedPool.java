@@ -17,6 +17,8 @@ final class ProvedPool<T> extends ZuphinkaPool<T> {
     private final CountedFactory<T> factory;
     /** That of the owner when its settings were last taken over. It has another one each time that it is set. */
     private volatile AbandonedConfig abandoned;
+    /** Whether a borrow waits that begins now: no setting of the pool below, as it holds to the end of a borrow. */
+    volatile boolean blocks;
     /** How many objects were destroyed when the owner was last shown for what. */
     private volatile long shownDestroyed;
     /** How many threads set all settings of the owner, of which none is taken over meanwhile. */
@@ -26,6 +28,7 @@ final class ProvedPool<T> extends ZuphinkaPool<T> {
         super(factory, settingsOf(owner), null, journal());
         this.owner = owner;
         this.factory = factory;
+        blocks = owner.getBlockWhenExhausted();
     }
 
     private static Journal journal() {
@@ -44,7 +47,6 @@ final class ProvedPool<T> extends ZuphinkaPool<T> {
     private static <T> GenericObjectPoolConfig<T> settingsOf(GenericObjectPool<T> pool) {
         GenericObjectPoolConfig<T> config = new GenericObjectPoolConfig<>();
         config.setJmxEnabled(false);
-        config.setBlockWhenExhausted(pool.getBlockWhenExhausted());
         config.setEvictionPolicy(ToldPolicy.of(pool));
         config.setFairness(pool.getFairness());
         config.setLifo(pool.getLifo());
@@ -64,7 +66,7 @@ final class ProvedPool<T> extends ZuphinkaPool<T> {
 
     private boolean isUpToDate() {
         return hasLimitsOfOwner() && hasTestsOfOwner()
-                && getBlockWhenExhausted() == owner.getBlockWhenExhausted()
+                && blocks == owner.getBlockWhenExhausted()
                 && getLifo() == owner.getLifo()
                 && abandoned == owner.abandonedConfig;
     }
@@ -114,8 +116,10 @@ final class ProvedPool<T> extends ZuphinkaPool<T> {
             return;
         }
         AbandonedConfig latest = owner.abandonedConfig;
+        boolean latestBlocks = owner.getBlockWhenExhausted();
         reconfigure(settingsOf(owner), latest);
         abandoned = latest;
+        blocks = latestBlocks;
     }
 
     /** Does the same for a call that is not to fail. Settings that the pool cannot have are thrown by the next call of {@link #update}. */
