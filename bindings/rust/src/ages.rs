@@ -152,9 +152,9 @@ impl<M: Manager> Shared<M> {
     /// Makes room in a full journal. Returns whether that is done.
     #[cold]
     fn make_room_to_examine(&self) -> bool {
-        let state = self.lock();
-        let end = state.end_of_wait();
-        self.make_room(state, Kind::Evict, end)
+        let mut state = self.lock();
+        let (first, end) = (state.first_stored(), state.end_of_wait());
+        self.make_room(state, Kind::Evict, first, end)
     }
 
     fn try_to_examine_age(&self, caller: u32) -> Result<Option<Examined<M>>, StepFault> {

@@ -16,6 +16,13 @@ pub(crate) struct Moment {
 }
 
 impl Moment {
+    /// Returns this moment, or the beginning of the next millisecond by the system's clock: a wait from then on is as long as it is to be.
+    pub fn rounded_up(self) -> Moment {
+        let is_within = self.nanos % 1_000_000 > 0;
+        let millis = self.millis.saturating_add(is_within.into());
+        Moment { millis, ..self }
+    }
+
     pub fn of_millis(millis: u64) -> Moment {
         let nanos = millis.wrapping_mul(1_000_000);
         Moment { millis, nanos }

@@ -6,7 +6,6 @@ use crate::locked_pool::LockedPool;
 use crate::manager::Manager;
 use crate::panics::drop_quietly;
 use crate::proved_core::{Call, Event, Start};
-use crate::room_waits::RoomWait;
 use crate::shared::{Held, Item, Shared, WaitLimit};
 use crate::sleepers::{Alarm, Wakes};
 use crate::values::Loan;
@@ -44,8 +43,10 @@ pub(crate) struct Course<M: Manager> {
     pub lacks_memory: bool,
     /// Whether it was begun again, after entries were dropped for the sake of memory.
     pub is_begun_again: bool,
-    /// For a task that waits for room in the journal.
-    pub room_wait: Option<RoomWait>,
+    /// The position of the first stored entry when it last found no room in the journal.
+    pub first_stored: u64,
+    /// For a task that waits for room in the journal: the number under which its waker is kept.
+    pub room_wait: Option<u64>,
     /// For a thread that is to sleep: how long at most, and for how many threads it waits at most.
     pub longest: Option<Duration>,
     pub threads: usize,
@@ -69,6 +70,7 @@ impl<M: Manager> Course<M> {
             tests_idle: false,
             lacks_memory: false,
             is_begun_again: false,
+            first_stored: 0,
             room_wait: None,
             longest: None,
             threads: 0,
@@ -112,10 +114,14 @@ impl<M: Manager> Course<M> {
         if needs_place && state.values.reserve().is_err() {
             return self.call.lack_memory();
         }
+        let at = match self.kind {
+            Kind::Borrow => self.at.rounded_up(),
+            _ => self.at,
+        };
         let start = Start {
             kind: self.kind,
             caller: self.caller,
-            at: state.tell(self.at),
+            at: state.tell(at),
             id: self.id,
             token: self.token,
         };
@@ -177,7 +183,9 @@ impl<M: Manager> Course<M> {
         }
         state.care_for_journal();
         match self.call.action() {
-            Action::Done(end) if end != End::Lent => pool.leave(state, wakes),
+            Action::Done(end) if end != End::Lent && self.kind != Kind::Touch => {
+                pool.leave(state, wakes);
+            }
             _ => pool.leave_with_loan(state, wakes),
         }
     }
@@ -201,9 +209,15 @@ impl<M: Manager> Course<M> {
                 return false;
             }
             Action::Done(end) => self.end(state, end),
-            // The value that it has then is that of an idle object, or not the pool's.
-            Action::MakeRoom | Action::GoOn if self.kind.ends_loan() => {}
-            Action::MakeRoom | Action::GoOn => self.release(state),
+            action @ (Action::MakeRoom | Action::GoOn) => {
+                if action == Action::MakeRoom {
+                    self.first_stored = state.first_stored();
+                }
+                // The value that it has then is that of an idle object, or not the pool's.
+                if !self.kind.ends_loan() {
+                    self.release(state);
+                }
+            }
         }
         true
     }

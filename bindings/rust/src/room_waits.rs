@@ -4,15 +4,6 @@ use crate::panics::unless_it_panics;
 use crate::proved_core::CallName;
 use std::task::Waker;
 
-/// The wait of a task for room in the journal.
-#[derive(Clone, Copy)]
-pub(crate) struct RoomWait {
-    /// The position of the first stored entry when it began.
-    pub first: u64,
-    /// The number under which its waker is kept.
-    pub number: u64,
-}
-
 /// The number of a task that waits, its waker, and its call.
 type Waiting = (u64, Waker, CallName);
 

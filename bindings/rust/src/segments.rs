@@ -2,11 +2,12 @@
 
 use std::collections::hash_map::RandomState;
 use std::env;
-use std::fs::{self, File};
-use std::hash::{BuildHasher, Hasher};
+use std::fs::{self, File, Metadata};
+use std::hash::BuildHasher;
 use std::io::{self, Write};
 use std::os::unix::fs::MetadataExt;
 use std::path::{Path, PathBuf};
+use std::process;
 
 /// A part of a pool's journal that is complete: the base that its entries continue, and the entries.
 ///
@@ -135,6 +136,8 @@ const SETTINGS: &str = "settings.toml";
 pub struct SegmentFolder {
     /// From the root.
     path: PathBuf,
+    /// The folder, which is open so that no other one has its number.
+    folder: File,
     /// Where a file is written before it gets its name. No other pool has this name.
     unfinished: PathBuf,
     /// Once the folder is this pool's: the file `settings.toml`, which is open so that no other file has its number, and the settings that were stored
@@ -154,8 +157,10 @@ impl SegmentFolder {
         let path = absolute(path.as_ref())?;
         create_folder(&path)?;
         check_is_free(&path)?;
-        let number = RandomState::new().build_hasher().finish();
+        // A forked child has its parent's random state.
+        let number = RandomState::new().hash_one(process::id());
         Ok(SegmentFolder {
+            folder: File::open(&path)?,
             unfinished: path.join(format!(".unfinished-{number:016x}")),
             path,
             own: None,
@@ -165,6 +170,23 @@ impl SegmentFolder {
     /// Makes the folder this pool's: stores the settings, unless another pool did.
     fn claim(&mut self, settings: &str) -> io::Result<()> {
         check_is_free(&self.path)?;
+        self.link_settings(settings)
+    }
+
+    /// Stores the settings again if they are gone from this pool's folder, as where a program removes or moves old files.
+    fn put_settings_back(&mut self, settings: &str) -> io::Result<()> {
+        let found = fs::metadata(self.path.join(SETTINGS));
+        let is_gone = matches!(found, Err(error) if error.kind() == io::ErrorKind::NotFound);
+        if self.own.is_none() || !is_gone {
+            return Ok(());
+        }
+        match is_same(&self.folder.metadata()?, &fs::metadata(&self.path)?) {
+            true => self.link_settings(settings),
+            false => Ok(()),
+        }
+    }
+
+    fn link_settings(&mut self, settings: &str) -> io::Result<()> {
         let file = self.write_unfinished(settings.as_bytes())?;
         let linked = fs::hard_link(&self.unfinished, self.path.join(SETTINGS));
         self.own = linked.is_ok().then(|| (file, settings.to_owned()));
@@ -197,7 +219,7 @@ impl SegmentFolder {
     fn check_is_own(&self) -> io::Result<()> {
         let found = fs::metadata(self.path.join(SETTINGS))?;
         let own = self.own.as_ref().map(|own| own.0.metadata()).transpose()?;
-        let is_own = own.is_some_and(|own| (own.dev(), own.ino()) == (found.dev(), found.ino()));
+        let is_own = own.is_some_and(|own| is_same(&own, &found));
         is_own.then_some(()).ok_or_else(|| is_taken(&self.path))
     }
 
@@ -271,6 +293,11 @@ fn is_of_change(name: &str) -> bool {
     })
 }
 
+/// Returns whether two files that are there are one.
+fn is_same(one: &Metadata, other: &Metadata) -> bool {
+    (one.dev(), one.ino()) == (other.dev(), other.ino())
+}
+
 fn is_taken(path: &Path) -> io::Error {
     let message = format!("{} has a journal already", path.display());
     io::Error::new(io::ErrorKind::AlreadyExists, message)
@@ -283,6 +310,7 @@ fn sync_folder(path: &Path) -> io::Result<()> {
 
 impl SegmentSink for SegmentFolder {
     fn store(&mut self, segment: &Segment<'_>) -> io::Result<()> {
+        self.put_settings_back(segment.settings)?;
         self.store_settings(segment)?;
         self.write(&format!("segment-{:020}", segment.position), segment.text)
     }

@@ -6,7 +6,6 @@ use crate::locked_pool::{after, LockedPool};
 use crate::manager::Manager;
 use crate::panics::drop_quietly;
 use crate::pauses::Pauses;
-use crate::room_waits::RoomWait;
 use crate::shared::{Held, Shared, WaitLimit};
 use crate::sleepers::Alarm;
 use crate::writing::Room;
@@ -38,7 +37,9 @@ impl<M: Manager> Course<M> {
         };
         let now = self.at.millis.max(state.last_time());
         let until = self.call.until();
-        let set = until.map(|until| Duration::from_millis(until.saturating_sub(now)));
+        // If that time is here and it is to sleep on, the clock is at its end.
+        let set = until.and_then(|until| until.checked_sub(now).filter(|left| *left > 0));
+        let set = set.map(Duration::from_millis);
         self.longest = left.into_iter().chain(set).min();
         let ticket = self.call.ticket();
         let is_task = waker.is_some();
@@ -102,7 +103,7 @@ impl<M: Manager> Course<M> {
             None => {
                 let state = pool.lock();
                 let end = self.end_of_wait(&state);
-                pool.make_room(state, self.kind, end)
+                pool.make_room(state, self.kind, self.first_stored, end)
             }
         };
         Some(report_of(is_made))
@@ -132,25 +133,19 @@ impl<M: Manager> Course<M> {
     fn look_for_room(&mut self, pool: &Shared<M>, waker: &mut Option<Waker>) -> Option<Report> {
         self.at = pool.now();
         let mut state = pool.lock();
-        let waited = self.room_wait.map(|wait| wait.first);
-        let first = waited.unwrap_or_else(|| state.first_stored());
+        let first = self.first_stored;
         match pool.look_for_room(&mut state, self.kind, first) {
             Room::Made => Some(Report::RoomMade),
             Room::Lacks => Some(report_of(pool.write_for_room(state, first))),
             Room::Awaited if self.may_wait(&state) && !self.is_over(&state) => {
-                self.await_room(state, first, waker)
+                self.await_room(state, waker)
             }
             Room::Awaited | Room::Refused => Some(Report::NoRoom),
         }
     }
 
     /// Waits until the journal is cut, or the thread that writes is done. Returns a report if there is no memory for that.
-    fn await_room(
-        &mut self,
-        mut state: Held<'_, M>,
-        first: u64,
-        waker: &mut Option<Waker>,
-    ) -> Option<Report> {
+    fn await_room(&mut self, mut state: Held<'_, M>, waker: &mut Option<Waker>) -> Option<Report> {
         let before = self.leave_room_wait(&mut state);
         let call = self.call.name();
         let kept = waker
@@ -160,7 +155,7 @@ impl<M: Manager> Course<M> {
         drop_quietly(before);
         match kept? {
             Ok(number) => {
-                self.room_wait = Some(RoomWait { first, number });
+                self.room_wait = Some(number);
                 None
             }
             Err(refused) => {
@@ -173,8 +168,8 @@ impl<M: Manager> Course<M> {
 
     /// A task waits for room no longer. Returns its alarm, if it was not called.
     pub fn leave_room_wait(&mut self, state: &mut LockedPool<M::Object>) -> Option<Alarm> {
-        let wait = self.room_wait.take()?;
-        let waker = state.journal.room_wakers.take(wait.number)?;
+        let number = self.room_wait.take()?;
+        let waker = state.journal.room_wakers.take(number)?;
         Some(Alarm::Task(waker, self.call.name()))
     }
 }

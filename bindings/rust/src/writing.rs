@@ -261,16 +261,16 @@ impl<M: Manager> Shared<M> {
         }
     }
 
-    /// Makes room in a full journal, or waits until then for the thread that does. Returns whether the journal was cut or has room: then the step
-    /// may be tried again, even if others have used the room up meanwhile.
+    /// Makes room in a journal that was full when its first stored entry had this position, or waits until then for the thread that does. Returns
+    /// whether the journal was cut or has room: then the step may be tried again, even if others have used the room up meanwhile.
     #[cold]
     pub fn make_room<'a>(
         &'a self,
         mut state: Held<'a, M>,
         kind: Kind,
+        first: u64,
         end: Option<Instant>,
     ) -> bool {
-        let first = state.first_stored();
         loop {
             match self.look_for_room(&mut state, kind, first) {
                 Room::Made => return true,

@@ -1,16 +1,18 @@
-//! What a forked child may do with its parent's pool: drop it.
+//! What a forked child may do with its parent's pool: drop it. And two children that open pools in one folder.
 #![cfg(unix)]
 
 mod common;
 
+use common::managers::{pair, Numbers};
 use common::{entries_of, new_folder};
+use std::collections::hash_map::RandomState;
 use std::convert::Infallible;
 use std::ffi::c_int;
 use std::fs;
 use std::panic::{catch_unwind, AssertUnwindSafe};
 use std::path::{Path, PathBuf};
 use std::thread;
-use std::time::{Duration, Instant};
+use std::time::{Duration, Instant, SystemTime, UNIX_EPOCH};
 use zuphinka::{Builder, Journal, Manager, Pool, Segments};
 
 extern "C" {
@@ -29,16 +31,21 @@ const KILL: c_int = 9;
 /// A child that takes longer hangs.
 const LONGEST: Duration = Duration::from_secs(20);
 
-/// Runs something in a forked child. Returns the status of its end, which is 0 if it did not panic.
-fn status_in_child(call: impl FnOnce()) -> c_int {
+/// Runs something in a forked child, which ends with the status that this returns, or with 1 if it panics. Returns the child's number.
+fn forked(call: impl FnOnce() -> c_int) -> c_int {
     // SAFETY: the child runs what the test gives, and ends without a return.
     let child = unsafe { fork() };
     assert!(child >= 0, "no child can be forked");
     if child == 0 {
-        let panicked = catch_unwind(AssertUnwindSafe(call)).is_err();
+        let status = catch_unwind(AssertUnwindSafe(call)).unwrap_or(1);
         // SAFETY: it ends this process.
-        unsafe { _exit(c_int::from(panicked)) }
+        unsafe { _exit(status) }
     }
+    child
+}
+
+/// Waits for the end of a child. Returns its status, or -1 if it was killed.
+fn status_of(child: c_int) -> c_int {
     let (mut status, end) = (0, Instant::now() + LONGEST);
     // SAFETY: the child is this process's own, and nobody else waits for it.
     while unsafe { waitpid(child, &mut status, WITHOUT_WAITING) } == 0 {
@@ -48,7 +55,18 @@ fn status_in_child(call: impl FnOnce()) -> c_int {
         }
         thread::sleep(Duration::from_millis(1));
     }
-    status
+    match status & 0x7f {
+        0 => status >> 8,
+        _ => -1,
+    }
+}
+
+/// Runs something in a forked child. Returns the status of its end, which is 0 if it did not panic.
+fn status_in_child(call: impl FnOnce()) -> c_int {
+    status_of(forked(|| {
+        call();
+        0
+    }))
 }
 
 /// Makes a file when it is dropped.
@@ -153,4 +171,35 @@ fn a_child_drops_a_pool_and_does_nothing_to_it() {
 #[test]
 fn a_child_drops_a_pool_whose_thread_it_does_not_have() {
     drop_in_both(|builder| builder.maintain_every(Duration::from_secs(3_600)));
+}
+
+/// Stores two segments in a folder, the first at a time. Returns whether that was done.
+fn stores_at(folder: &Path, start: SystemTime) -> bool {
+    let Ok(segments) = Segments::in_folder(folder) else {
+        return false;
+    };
+    let builder = Pool::builder().journal(Journal::Segments(segments));
+    let pool = builder.build(Numbers::<true>).unwrap();
+    while SystemTime::now() < start {}
+    (0..2).all(|_| {
+        pair(&pool);
+        pool.flush_journal().is_ok()
+    })
+}
+
+#[test]
+fn one_of_two_children_that_store_at_once_gets_the_folder() {
+    const STORED: c_int = 2;
+    // As a map of the parent's has.
+    let _ = RandomState::new();
+    for round in 0..50 {
+        let folder = new_folder();
+        let start = UNIX_EPOCH + UNIX_EPOCH.elapsed().unwrap() + Duration::from_millis(8);
+        let stores = || c_int::from(stores_at(&folder, start)) * STORED;
+        let children = [forked(stores), forked(stores)];
+        let mut ends = children.map(status_of);
+        ends.sort_unstable();
+        assert_eq!(ends, [0, STORED], "round {round}");
+        fs::remove_dir_all(folder).unwrap();
+    }
 }

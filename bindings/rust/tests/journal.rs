@@ -20,7 +20,7 @@ use std::time::{Duration, Instant};
 use std::{fs, mem, thread};
 use zuphinka::{
     Abandoned, Builder, Error, Get, Journal, OpenError, Pool, Pooled, Segment, SegmentFolder,
-    SegmentSink, Segments, SettingsError, SinkFailure, WeakPool,
+    SegmentSink, Segments, SettingsError, SinkFailure, Touched, WeakPool,
 };
 
 with_and_without_hooks! {
@@ -60,6 +60,9 @@ with_and_without_hooks! {
     a_returned_object_is_lent_while_a_segment_is_stored
     a_sink_may_borrow_what_another_borrow_waits_for
     others_continue_while_a_cut_is_written
+    a_note_of_a_use_stores_no_segment
+    settings_that_are_gone_are_stored_again
+    room_that_another_thread_made_is_seen
 }
 
 fn a_journal_that_is_not_kept_is_never_full<const HOOKS: bool>() {
@@ -568,20 +571,14 @@ fn a_borrow_that_waits_for_a_segment_goes_on_once_there_is_room<const HOOKS: boo
     assert_segments_legal(&pool, &texts_of(&stored));
 }
 
-fn a_loan_does_not_begin_before_a_segment_is_stored<const HOOKS: bool>() {
-    /// Stores each segment in a second of this time.
-    struct Seconds(Arc<AtomicU64>);
-    impl SegmentSink for Seconds {
-        fn store(&mut self, _segment: &Segment<'_>) -> io::Result<()> {
-            self.0.fetch_add(1_000, Ordering::SeqCst);
-            Ok(())
-        }
-    }
-    // So a segment is due after each step of a loan in turn.
-    for limit in 60..70 {
+/// Stores each segment in a second of this time.
+struct Seconds(Arc<AtomicU64>);
+
+impl Seconds {
+    /// Opens a pool with such a sink, whose objects are abandoned after half a second. Returns the time too.
+    fn pool<const HOOKS: bool>(limit: u64) -> (Pool<Numbers<HOOKS>>, Arc<AtomicU64>) {
         let time = Arc::new(AtomicU64::new(0));
-        let sink = Seconds(Arc::clone(&time));
-        let told = Arc::clone(&time);
+        let (sink, told) = (Seconds(Arc::clone(&time)), Arc::clone(&time));
         let abandoned = Abandoned::new().on_maintenance(true);
         let pool = Pool::builder()
             .journal(Journal::Segments(Segments::new(sink).limit(limit)))
@@ -589,6 +586,21 @@ fn a_loan_does_not_begin_before_a_segment_is_stored<const HOOKS: bool>() {
             .clock(move || told.load(Ordering::SeqCst))
             .build(Numbers::<HOOKS>)
             .unwrap();
+        (pool, time)
+    }
+}
+
+impl SegmentSink for Seconds {
+    fn store(&mut self, _segment: &Segment<'_>) -> io::Result<()> {
+        self.0.fetch_add(1_000, Ordering::SeqCst);
+        Ok(())
+    }
+}
+
+fn a_loan_does_not_begin_before_a_segment_is_stored<const HOOKS: bool>() {
+    // So a segment is due after each step of a loan in turn.
+    for limit in 60..70 {
+        let (pool, time) = Seconds::pool::<HOOKS>(limit);
         for _ in 0..100 {
             let held = pool.get().unwrap();
             assert_eq!(pool.reclaim(), Ok(0));
@@ -1119,4 +1131,71 @@ fn judge_alone(settings: &str, journal: &str) -> usize {
         wanted = Some((at + 1) % 4);
     }
     entries.len()
+}
+
+fn a_note_of_a_use_stores_no_segment<const HOOKS: bool>() {
+    // So a segment is due after each step in turn.
+    for limit in 60..70 {
+        let (pool, time) = Seconds::pool::<HOOKS>(limit);
+        let held = pool.get().unwrap();
+        for _ in 0..100 {
+            assert_eq!(Pooled::touch(&held), Ok(Touched::Noted));
+            assert_eq!(pool.reclaim(), Ok(0), "limit {limit}");
+        }
+        assert!(time.load(Ordering::SeqCst) > 3_000);
+    }
+}
+
+fn settings_that_are_gone_are_stored_again<const HOOKS: bool>() {
+    let folder = new_folder();
+    let segments = Segments::in_folder(&folder).unwrap().limit(200);
+    let builder = Pool::builder().journal(Journal::Segments(segments));
+    let pool = builder.build(Numbers::<HOOKS>).unwrap();
+    let stored = |name: &str| fs::read_to_string(folder.join(name));
+    for position in [0, 4, 8] {
+        pair(&pool);
+        assert_eq!(pool.flush_journal().unwrap(), 4);
+        assert_eq!(stored("settings.toml").unwrap(), pool.settings());
+        // All that is stored goes to an archive.
+        for name in ["settings.toml", &format!("segment-{position:020}")] {
+            fs::remove_file(folder.join(name)).unwrap();
+        }
+    }
+    assert_eq!(fs::read_dir(&folder).unwrap().count(), 0);
+    drop(pool);
+    fs::remove_dir_all(folder).unwrap();
+}
+
+fn room_that_another_thread_made_is_seen<const HOOKS: bool>() {
+    let (slow, is_called, go_on) = Slow::new();
+    let (flush, is_to_flush) = mpsc::channel();
+    let reads = Arc::new(AtomicU64::new(u64::MAX));
+    let (left, other) = (Arc::clone(&reads), Mutex::new((flush, is_called)));
+    // At one read of the clock another thread cuts the journal.
+    let clock = move || {
+        if left.fetch_sub(1, Ordering::SeqCst) == 1 {
+            let other = other.lock().unwrap();
+            other.0.send(()).unwrap();
+            other.1.recv().unwrap();
+        }
+        0
+    };
+    // The least limit.
+    let segments = Segments::new(slow).limit(7);
+    let builder = Pool::builder().max_total(1).clock(clock);
+    let builder = builder.journal(Journal::Segments(segments));
+    let pool = builder.build(Numbers::<HOOKS>).unwrap();
+    let held = pool.get().unwrap();
+    assert_eq!(pool.room(), 0);
+    thread::scope(|scope| {
+        let pool = &pool;
+        scope.spawn(move || is_to_flush.recv().map(|()| pool.flush_journal().unwrap()));
+        // The first read is at the beginning of the borrow, and the second before it looks for room.
+        reads.store(2, Ordering::SeqCst);
+        let (mut get, bell) = (pool.get_async(), Bell::new());
+        assert!(poll(&mut get, &bell).is_pending());
+        assert_eq!((pool.waiting(), pool.room()), (1, 1));
+        drop(go_on);
+    });
+    drop(held);
 }

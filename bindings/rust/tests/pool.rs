@@ -5,13 +5,14 @@ mod common;
 #[macro_use]
 mod hooks;
 
-use common::managers::{kept, pool_with, Broken, Maker};
+use common::managers::{kept, pool_with, Broken, Maker, Numbers};
+use common::tasks::{poll, ready, Bell};
 use common::{
     assert_legal, assert_segments_legal, cut_off, entries_of, journal_of, panics, steps_of,
     times_of, wait_for_waits, while_waiting,
 };
 use std::sync::atomic::{AtomicU64, Ordering};
-use std::sync::{mpsc, Mutex};
+use std::sync::{mpsc, Arc, Mutex};
 use std::thread;
 use std::time::{Duration, Instant};
 use zuphinka::{
@@ -30,6 +31,8 @@ with_and_without_hooks! {
     tests_come_where_they_are_set
     an_exhausted_pool_refuses
     a_wait_is_as_long_as_the_settings_say
+    no_wait_of_a_task_ends_before_its_time
+    a_wait_at_the_end_of_the_clock_is_a_sleep
     a_waiter_is_woken_by_what_it_waits_for
     a_waiter_is_woken_by_a_removal
     a_use_puts_a_removal_off
@@ -274,6 +277,41 @@ fn a_wait_is_as_long_as_the_settings_say<const HOOKS: bool>() {
         ["make 0", "lent", "wait", "timeout", "wait", "timeout"]
     );
     assert_legal(&pool);
+}
+
+fn no_wait_of_a_task_ends_before_its_time<const HOOKS: bool>() {
+    let most = Duration::from_millis(2);
+    let builder = Pool::builder().max_total(1).max_wait(most);
+    let pool = builder.build(Numbers::<HOOKS>).unwrap();
+    let _held = pool.get().unwrap();
+    let bell = Bell::new();
+    let waits = (0..50).map(|_| {
+        let (start, mut get) = (Instant::now(), pool.get_async());
+        let mut polled = poll(&mut get, &bell);
+        while polled.is_pending() {
+            polled = poll(&mut get, &bell);
+        }
+        assert_eq!(ready(polled).unwrap_err(), Error::TimedOut);
+        start.elapsed()
+    });
+    let shortest = waits.min().unwrap();
+    assert!(shortest >= most, "{shortest:?}");
+}
+
+fn a_wait_at_the_end_of_the_clock_is_a_sleep<const HOOKS: bool>() {
+    let reads = Arc::new(AtomicU64::new(0));
+    let counted = Arc::clone(&reads);
+    let clock = move || {
+        counted.fetch_add(1, Ordering::SeqCst);
+        u64::MAX
+    };
+    let builder = Pool::builder().max_total(1).clock(clock);
+    let pool = builder.build(Numbers::<HOOKS>).unwrap();
+    let _held = pool.get().unwrap();
+    let short = Duration::from_millis(50);
+    assert_eq!(pool.get_timeout(short).unwrap_err(), Error::TimedOut);
+    let reads = reads.load(Ordering::SeqCst);
+    assert!(reads < 20, "{reads} reads");
 }
 
 fn a_waiter_is_woken_by_what_it_waits_for<const HOOKS: bool>() {
