@@ -247,6 +247,27 @@ def of_uses(judge, settings):
     return wrong
 
 
+def of_pipe(judge, settings):
+    """A segment that can be read only once is not judged, whether or not it is legal."""
+    wanted = b"", b"judge: /dev/stdin: read failed\n", 3
+    texts = THREE[0], THREE[0].replace(b"check", b"gone"), THREE[0].partition(b"\n")[2]
+    return [told for text in texts for told in differing("a segment from a pipe", wanted, run(judge, settings, "/dev/stdin", input=text))]
+
+
+def of_wrong_answer(judge):
+    """What differs where the page checks each segment of a folder with its own settings, and the second of three has a wrong answer."""
+    texts = [THREE[0], THREE[1].replace(b"add = make 1", b"add = make 2"), THREE[2]]
+    join = scripts_of_page()[0][0].partition("\nprintf 'pool-journal")
+    with scratch() as room:
+        write_files(room, {"settings.toml": b""} | {f"segment-{at:020}": text for at, text in zip((0, 4, 7), texts)})
+        (room / "reached").mkdir()
+        (room / "judge").symlink_to(pathlib.Path(judge).resolve())
+        script = shell_of_page()[-1] + (join[1] + join[2]).replace("archived/", "")
+        done = run("sh", "-c", f"PATH=.:$PATH; {script}", cwd=room)
+    wanted = b"not legal from segment-00000000000000000004 on\n", 1
+    return [f"a wrong answer, with the settings of each segment: {done}"] * ((done.stdout, done.returncode) != wanted)
+
+
 def of_refused(command, wanted, library, mark):
     """What differs where each allocation is refused in turn, and where none is. The first cannot be done without."""
     found = []
@@ -268,7 +289,7 @@ def trials(judge, pool, cases, defaults, room):
         yield from ((of_commands, judge, script, job, case) for script in scripts)
     for name, segments in damaged_segments():
         yield of_segments, judge, name, defaults, segments
-    yield from [(of_beside, pool), (of_uses, judge, defaults)]
+    yield from [(of_beside, pool), (of_uses, judge, defaults), (of_pipe, judge, defaults), (of_wrong_answer, judge)]
     # The segments that another one follows, of the legal journals among the first twelve.
     for case, settings, paths in cases[:12]:
         for path, following in zip(paths, texts_of(case)[1:]) if is_legal(case) else ():

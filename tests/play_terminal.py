@@ -26,17 +26,18 @@ PIECE = 3_000
 PAUSE = 1.2
 WIPED = b"\r\x1b[K"
 NOTHING = re.compile(b"")
-TOLD = re.compile(rb"(\rpool: \d+ MB)+" + re.escape(WIPED))
+TOLD = re.compile(rb"(\r\x1b\[Kpool: \d+( of \d+)? MB)+" + re.escape(WIPED))
 SEGMENT = b"pool-journal 2 4 1 open none 0 0 0 1\n0 idle 3 16 11 11 old\n0 20 borrow 20 = take 0\n"
 FILES = {
     "defaults.toml": b"", "two.toml": b"journalLimit = 2\n", "bad.toml": b"maxTotal = 1\n\nminIdle =\n",
     "key.toml": b"maxTotal = 1\nmaxTotl = 8\n", "bytes.toml": b"lifo = true # \xff\n", "script": b"0 0 borrow 0\n",
     "journal": PLAIN_LIFE, "segment": SEGMENT, "joined": PLAIN_LIFE + SEGMENT, "returns": PLAIN_LIFE.replace(b"\n", b"\r\n"),
-    "two\nlines": b"x\n", "worse": SEGMENT + b"x\n", "long": b"a" * 300, "number": b"0 1 borrow 01 = wait\n", "cut": PLAIN_LIFE[:-1],
+    "returns.toml": b"maxTotal = 1\r\nminIdle =\r\n", "headed": SEGMENT.partition(b"\n")[0] + b"\n", "two\nlines": b"x\n", "worse": SEGMENT + b"x\n", "long": b"a" * 300, "number": b"0 1 borrow 01 = wait\n", "cut": PLAIN_LIFE[:-1],
 }
 USES = "try pool --help"
 SWAPPED = "this is a script or a journal: SETTINGS comes first"
 LIMIT = "a larger journalLimit in the settings makes room"
+ENDS_EARLY = "the file ends within a line, or within its base"
 ANSWERED = "this line of a journal has an answer: pool check and pool stats take a journal"
 # Words, and the lines of the error at a terminal. Each but the first is a hint.
 HINTS = [
@@ -61,7 +62,9 @@ HINTS = [
     ("stats two\nlines", ["line 1: not a line", "in two\\nlines"]),
     ("check defaults.toml long", ["line 1: line too long", "in long", "a line has at most 256 bytes"]),
     ("stats number", ["line 1: bad number", "in number", "a number has no leading zero, and a caller is at most 4294967295"]),
-    ("check defaults.toml cut", ["line 4: truncated", "in cut", "the last line has no line feed"]),
+    ("check defaults.toml cut", ["line 4: truncated", "in cut", ENDS_EARLY]),
+    ("stats headed", ["line 2: truncated", "in headed", ENDS_EARLY]),
+    ("run returns.toml script", ["settings: not TOML", "in returns.toml, line 2"]),
     ("check defaults.toml journal worse", ["line 4: not a line", "in worse"]),
     ("stats folder", ["read failed", "in folder"]),
     ("run two.toml script", ["line 1: journal full", "in script", LIMIT]),

@@ -17,6 +17,7 @@ RT = """#!/bin/sh
 printf '%s\\n' "$PWD" "$@"
 cat
 printf 'pool: cannot open %s/journal\\n' "$HERE" >&2
+printf 'pool: cannot open the settings beside %s/segment-1\\n' "$HERE" >&2
 printf 'checked: ended status=%s\\nraces: not looked for\\nrun=ended status=%s runners=1 proved=no\\n' $STATUS $STATUS >&2
 exit $STATUS
 """
@@ -67,7 +68,7 @@ def with_other_rt(folder):
         done = play([], here, path, status=status)
         yield f"status {status}", status, done.returncode
         told, *rest = done.stderr.splitlines()
-        yield f"standard error with status {status}", (True, ["pool: cannot open journal"]), (NOTHING_PROVED in told, rest)
+        yield f"standard error with status {status}", (True, ["pool: cannot open journal", "pool: cannot open the settings beside segment-1"]), (NOTHING_PROVED in told, rest)
     (tools / "rt").write_text("#!/bin/sh\necho 'run=none proved=no' >&2\nexit 2\n")
     done = play([], here, path)
     yield "no answer", (2, ["run=none proved=no"]), (done.returncode, done.stderr.splitlines()[1:])

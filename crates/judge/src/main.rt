@@ -21,8 +21,10 @@ use pool_journal::print_base;
 use pool_settings::Settings;
 use segment::OneSegment;
 use std::env;
+use std::fs;
 use std::fs::File;
 use std::io::Write;
+use std::path::Path;
 use std::process::ExitCode;
 
 fn main(rt: HostRuntime) -> ExitCode {
@@ -54,6 +56,9 @@ fn perform<'a>(rt: &HostRuntime, arguments: &'a [String]) -> Result<(), JudgeErr
 /// Checks the segment in a file, and prints the base after it.
 fn judge<'a>(rt: &HostRuntime, settings: &'a str, segment: &'a str) -> Result<(), JudgeError<'a>> {
     let settings = settings_in(rt, settings)?;
+    if !may_be_read_twice(rt, segment) {
+        return Err(JudgeError::Segment(segment, SegmentFault::Engine(EngineFault::Read)));
+    }
     match reached_by(rt, settings, segment) {
         Ok(text) => write(rt, &text),
         Err(SegmentFault::Unopened) => Err(JudgeError::Unopened(segment)),
@@ -64,6 +69,15 @@ fn judge<'a>(rt: &HostRuntime, settings: &'a str, segment: &'a str) -> Result<()
 fn settings_in<'a>(rt: &HostRuntime, path: &'a str) -> Result<Settings, JudgeError<'a>> {
     let mut file = File::open(rt, path).map_err(|_| JudgeError::Unopened(path))?;
     read_settings(rt.alloc(), &mut file).map_err(|fault| JudgeError::Settings(path, fault))
+}
+
+/// Returns whether the file at this path has the same contents each time that it is opened, as a pipe has not. One that
+/// is not there is reported once it is opened.
+fn may_be_read_twice(rt: &HostRuntime, path: &str) -> bool {
+    match fs::metadata(rt, Path::new(path)) {
+        Ok(metadata) => metadata.is_file(),
+        Err(_) => true,
+    }
 }
 
 /// Returns the lines of the base after the segment in the file at this path.

@@ -1,5 +1,5 @@
 -- An error is recorded where it occurred, and nowhere else.
-use Rattle.std.specs.Prelude.{◌≡◌, ◌⊎◌, Bool, true, false, List, [], ◌∷◌, Result, Ok, Err}
+use Rattle.std.specs.Prelude.{◌≡◌, Bool, true, false, Result, Ok, Err}
 use Rattle.pool_engines.specs.declared.engine_fault.EngineFault.{EngineFault}
 use Rattle.pool_engines.specs.declared.engine_fault.EngineFault.TheVariants.{Line, Full, OutOfMemory, Read, Write}
 
@@ -7,13 +7,6 @@ use Rattle.pool_engines.specs.declared.engine_fault.EngineFault.TheVariants.{Lin
 abbrev pub IsReported : Bool → Bool → Bool → Type 0
 IsReported true before after = after ≡ true
 IsReported false before after = after ≡ before
-
--- if a failure is reported, one has failed, and the others are unchanged; otherwise all are
-abbrev pub AreReported : Bool → List Bool → List Bool → Type 0
-AreReported reported [] after = (reported ≡ false) × (after ≡ [])
-AreReported reported (b ∷ before) after =
-    (now : Bool) × (others : List Bool) × (after ≡ now ∷ others)
-    × ((IsReported reported b now × (others ≡ before)) ⊎ ((now ≡ b) × AreReported reported before others))
 
 -- did the reader fail?
 abbrev pub is_read_failure : {A : Type 0} → Result A EngineFault → Bool

@@ -61,12 +61,13 @@ abbrev pub line_advice : LineFault → Option LineKind → Option (List ℕ)
 line_advice lines.LineTooLong _ = Some (codes "a line has at most 256 bytes")
 line_advice lines.NotALine kind = kind_advice kind
 line_advice lines.BadNumber _ = Some (codes "a number has no leading zero, and a caller is at most 4294967295")
-line_advice lines.Truncated _ = Some (codes "the last line has no line feed")
+line_advice lines.Truncated _ = Some (codes "the file ends within a line, or within its base")
 line_advice lines.OutOfMemory _ = None
 
 -- A settings file that begins with a line of a script or a journal was taken for the other argument.
 abbrev pub settings_advice : FileFault → Option LineKind → Option (List ℕ)
 settings_advice files.NotUtf8 _ = Some (codes "settings are UTF-8")
+settings_advice (files.Text settings.NotToml) (Some CarriageReturn) = None
 settings_advice (files.Text settings.NotToml) (Some _) = Some (codes "this is a script or a journal: SETTINGS comes first")
 settings_advice _ _ = None
 

@@ -122,6 +122,7 @@ fn settings_advice(fault: &FileFault, kind: Option<LineKind>) -> Option<&'static
 {
     match (fault, kind) {
         (FileFault::NotUtf8, _) => Some("settings are UTF-8"),
+        (FileFault::Text(SettingsFault::NotToml), Some(LineKind::CarriageReturn)) => None,
         (FileFault::Text(SettingsFault::NotToml), Some(_)) => {
             Some("this is a script or a journal: SETTINGS comes first")
         }
@@ -138,7 +139,7 @@ fn line_advice(fault: &LineFault, kind: Option<LineKind>) -> Option<&'static str
         LineFault::BadNumber => {
             Some("a number has no leading zero, and a caller is at most 4294967295")
         }
-        LineFault::Truncated => Some("the last line has no line feed"),
+        LineFault::Truncated => Some("the file ends within a line, or within its base"),
         LineFault::OutOfMemory => None,
     }
 }

@@ -75,14 +75,15 @@ impl<'a> Progress<'a> {
             .is_ok()
     }
 
-    /// Prints how much was read, in millions of bytes. A failed write is ignored.
+    /// Prints how much was read, in millions of bytes, in place of the last message, which may be longer. A failed write is
+    /// ignored.
     fn show(&self) {
         let read = self.read.load(Ordering::SeqCst) / 1_000_000;
         let length = self.length.load(Ordering::SeqCst) / 1_000_000;
         let _ = if length == 0 || length < read {
-            write!(self.rt.stderr(), "\rpool: {read} MB")
+            write!(self.rt.stderr(), "\r\x1b[Kpool: {read} MB")
         } else {
-            write!(self.rt.stderr(), "\rpool: {read} of {length} MB")
+            write!(self.rt.stderr(), "\r\x1b[Kpool: {read} of {length} MB")
         };
         self.is_shown.store(true, Ordering::SeqCst);
     }

@@ -29,10 +29,10 @@ pub fn run<R: Source, W: Sink>(
 pub fn check<R: Source, W: Sink>(
     alloc: Global,
     settings: Settings,
-    readers: &mut [R],
+    reader: &mut R,
     writer: &mut W,
 ) -> Result<bool, EngineFault> {
-    pool_engines::check(alloc, settings, readers, writer)
+    pool_engines::check(alloc, settings, reader, writer)
 }
 
 /// Writes the statistics of a journal.

@@ -64,9 +64,9 @@ fn bytes_are_gathered(rt: HostRuntime) {
 }
 
 fn is_judged_in_one_write(rt: &impl Abort, alloc: Global, journal: &str) {
-    let mut readers = [CountedReader::new(journal.as_bytes(), 0)];
+    let mut reader = CountedReader::new(journal.as_bytes(), 0);
     let mut writer = CountedWriter::new(alloc, 0);
-    let found = check(alloc, Settings::default(), &mut readers, &mut writer);
+    let found = check(alloc, Settings::default(), &mut reader, &mut writer);
     let found = (found.is_ok(), writer.handed());
     is_at(rt, journal, found, (true, ONE_WRITE));
 }
@@ -104,10 +104,10 @@ fn no_whole_line_is_no_request(rt: HostRuntime) {
 #[test]
 fn nothing_is_read_after_a_wrong_answer(rt: HostRuntime) {
     let mut reported = Vec::new(rt.alloc());
-    let mut wrong = [Endless::new(b"0 0 borrow 0 = wait\n")];
+    let mut wrong = Endless::new(b"0 0 borrow 0 = wait\n");
     let found = check(rt.alloc(), Settings::default(), &mut wrong, &mut reported);
     let illegal = b"illegal 0 make 0\n".as_slice();
-    let found = (found, wrong[0].reads(), reported.as_slice());
+    let found = (found, wrong.reads(), reported.as_slice());
     is(&rt, found, (Ok(false), 1, illegal));
 }
 
@@ -206,8 +206,8 @@ fn signals_are_no_fault_of_settings(rt: HostRuntime) {
 #[test]
 fn a_journal_in_pieces_is_read_to_its_end_once(rt: HostRuntime) {
     let written = Cell::new(0);
-    let mut readers = [Pieces::new(PLAIN_LIFE.as_bytes(), 24, &written)];
+    let mut reader = Pieces::new(PLAIN_LIFE.as_bytes(), 24, &written);
     let mut reported = Vec::new(rt.alloc());
-    let found = check(rt.alloc(), Settings::default(), &mut readers, &mut reported);
-    is(&rt, (found, readers[0].reads()), (Ok(true), 6));
+    let found = check(rt.alloc(), Settings::default(), &mut reader, &mut reported);
+    is(&rt, (found, reader.reads()), (Ok(true), 6));
 }
