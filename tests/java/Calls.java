@@ -390,7 +390,7 @@ public final class Calls extends Expectations {
         texts.passivates = new IOException("passivate");
         List<Object> third = whileWaiting(endless, 1, endless::borrowObject, () -> endless.returnObject((String) second.get(0)));
         expect("a return that fails wakes", List.of("text 2"), third);
-        String closed = "IllegalStateException: Pool not open";
+        String closed = "IllegalStateException: Pool not open from The pool was closed";
         expect("a close wakes", List.of(closed, closed), whileWaiting(endless, 2, endless::borrowObject, endless::close));
         write(endless);
     }

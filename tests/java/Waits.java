@@ -454,7 +454,7 @@ public final class Waits extends Expectations {
             expect("they alone wait", others, pool.getNumWaiters());
             pool.close();
         });
-        expect("they wait until the close", Collections.nCopies(others, "IllegalStateException: Pool not open"), got);
+        expect("they wait until the close", Collections.nCopies(others, "IllegalStateException: Pool not open from The pool was closed"), got);
     }
 
     /** Passivates an object until it is told to end. The wrapper needs no memory for a return. */

@@ -20,12 +20,11 @@ use pool_engines::{EngineFault, SegmentFault, judge_segment, read_settings};
 use pool_journal::print_base;
 use pool_settings::Settings;
 use segment::OneSegment;
-use std::env;
-use std::fs;
 use std::fs::File;
 use std::io::Write;
 use std::path::Path;
 use std::process::ExitCode;
+use std::{env, fs};
 
 fn main(rt: HostRuntime) -> ExitCode {
     match arguments_of(&rt) {
