@@ -446,6 +446,18 @@ static void test_waits_end_by_the_settings(void) {
   end_pool(maker.pool);
 }
 
+/* A wait sleeps while the clock of the host is at its end. */
+static void test_waits_at_the_end_of_the_clock(void) {
+  struct zuphinka_pool *pool = open_kept("maxTotal = 1\nmaxWaitMillis = 60000\n", 1);
+  struct zuphinka_pool_loan loan = lend(pool), other;
+  atomic_store(&maker.now, UINT64_MAX);
+  atomic_store(&maker.looks, 0);
+  check_error(zuphinka_pool_get_timed(pool, 50, &other), ZUPHINKA_POOL_ERROR_TIMED_OUT);
+  check(atomic_load(&maker.looks) < 20);
+  give_back(pool, &loan);
+  end_pool(pool);
+}
+
 /* The caller ends a wait, which makes no entry then. */
 static void test_waits_end_by_the_caller(void) {
   struct zuphinka_pool_loan loan = open_lent("maxTotal = 1\nmaxWaitMillis = 60000\n"), other;
@@ -1997,26 +2009,25 @@ static void test_waits_for_no_store(void) {
 static void *touch_until_held(void *argument) {
   struct waiter *waiter = argument;
   waiter->error = ZUPHINKA_POOL_ERROR_NONE;
-  while (!waiter->error && atomic_load(&maker.sink.called) == 0) waiter->error = zuphinka_pool_touch(waiter->pool, &waiter->loan);
+  while (!waiter->error && atomic_load(&maker.sink.called) < 2) waiter->error = zuphinka_pool_touch(waiter->pool, &waiter->loan);
   return NULL;
 }
 
-/* A touch that stores a segment first notes no use if its loan ends meanwhile, also if the object is lent again. */
+/* A touch that first stores a segment, which another one has left, notes no use if its loan ends meanwhile. */
 static void test_ended_while_touched(void) {
   struct zuphinka_pool *pool = open_stored(&maker, "maxTotal = 1\njournalLimit = 200\n", NULL, ZUPHINKA_POOL_JOURNAL_SEGMENTS);
   struct zuphinka_pool_loan loan = lend(pool);
   struct waiter touching = {.pool = pool, .loan = loan};
+  maker.sink.fails_at = 1;
+  while (atomic_load(&maker.sink.called) == 0) check_error(zuphinka_pool_touch(pool, &loan), ZUPHINKA_POOL_ERROR_NONE);
   atomic_store(&maker.sink.is_held, true);
   check(pthread_create(&touching.thread, NULL, touch_until_held, &touching) == 0);
-  while (atomic_load(&maker.sink.called) == 0) sleep_for(1);
+  while (atomic_load(&maker.sink.called) < 2) sleep_for(1);
   give_back(pool, &loan);
-  loan = lend(pool);
-  check(loan.id == touching.loan.id);
   uint64_t steps = counts_of(pool).steps;
   atomic_store(&maker.sink.is_held, false);
   join(&touching, 1, ZUPHINKA_POOL_ERROR_NOT_LENT);
   check(counts_of(pool).steps == steps);
-  give_back(pool, &loan);
   end_pool(pool);
 }
 
@@ -2047,6 +2058,65 @@ static void test_store_that_borrows(void) {
   struct zuphinka_pool *pool = maker.pool;
   maker.pool = NULL;
   check_error(zuphinka_pool_end(pool), ZUPHINKA_POOL_ERROR_NONE);
+}
+
+/* A store that borrows an object once, for a second at most. */
+static bool store_and_lend(void *context, uint64_t first, const char *text, size_t size) {
+  (void)first, (void)text, (void)size;
+  struct maker *made = context;
+  struct zuphinka_pool_loan loan;
+  if (atomic_fetch_add(&made->sink.called, 1) > 0) return true;
+  check_error(zuphinka_pool_get_timed(made->pool, 1000, &loan), ZUPHINKA_POOL_ERROR_NONE);
+  check_error(zuphinka_pool_give_back(made->pool, &loan), ZUPHINKA_POOL_ERROR_NONE);
+  return true;
+}
+
+/* A store that borrows does not wait for the call in which it runs: no segment is stored by a thread that is in the queue. */
+static void test_store_that_borrows_in_the_queue(void) {
+  struct waiter waiter;
+  maker.is_fair = true;
+  struct zuphinka_pool_host host = host_of(&maker);
+  const char *settings = "maxTotal = 1\njournalLimit = 40\n";
+  host.store = store_and_lend;
+  check_error(zuphinka_pool_open(&maker.pool, settings, strlen(settings), &host, ZUPHINKA_POOL_JOURNAL_SEGMENTS), ZUPHINKA_POOL_ERROR_NONE);
+  struct zuphinka_pool *pool = maker.pool;
+  struct zuphinka_pool_loan loan = lend(pool);
+  start(&waiter, 1, pool, borrow_and_return);
+  while (counts_of(pool).steps < 34) check_error(zuphinka_pool_touch(pool, &loan), ZUPHINKA_POOL_ERROR_NONE);
+  give_back(pool, &loan); /* the journal has room for less than the borrow that waits needs */
+  join(&waiter, 1, ZUPHINKA_POOL_ERROR_NONE);
+  loan = lend(pool);
+  give_back(pool, &loan);
+  zuphinka_pool_close(pool);
+  atomic_store(&maker.sink.called, 1);
+  end_pool(pool);
+}
+
+/* A store that takes longer than an object may be unused, after which abandoned objects are reclaimed. */
+static bool store_for_long(void *context, uint64_t first, const char *text, size_t size) {
+  (void)first, (void)text, (void)size;
+  struct maker *made = context;
+  if (atomic_fetch_add(&made->sink.called, 1) > 0) return true;
+  atomic_fetch_add(&made->now, 600);
+  check_error(zuphinka_pool_reclaim(made->pool, NULL), ZUPHINKA_POOL_ERROR_NONE);
+  return true;
+}
+
+/* A touch of an object in time keeps it from a reclaim, also if it finds the journal full and the store is slow. */
+static void test_touch_before_a_slow_store(void) {
+  struct zuphinka_pool_host host = host_of(&maker);
+  const char *settings = "maxTotal = 1\njournalLimit = 40\n[abandoned]\nremoveAbandonedOnMaintenance = true\nremoveAbandonedTimeoutMillis = 1000\n";
+  host.store = store_for_long;
+  check_error(zuphinka_pool_open(&maker.pool, settings, strlen(settings), &host, ZUPHINKA_POOL_JOURNAL_SEGMENTS), ZUPHINKA_POOL_ERROR_NONE);
+  struct zuphinka_pool *pool = maker.pool;
+  struct zuphinka_pool_loan loan = lend(pool);
+  while (counts_of(pool).steps < 35) check_error(zuphinka_pool_touch(pool, &loan), ZUPHINKA_POOL_ERROR_NONE);
+  atomic_fetch_add(&maker.now, 500);
+  check_error(zuphinka_pool_touch(pool, &loan), ZUPHINKA_POOL_ERROR_NONE);
+  give_back(pool, &loan);
+  zuphinka_pool_close(pool);
+  atomic_store(&maker.sink.called, 1);
+  end_pool(pool);
 }
 
 /* ---- forked processes */
@@ -3071,6 +3141,7 @@ static const struct {
     TEST(tests_come_where_they_are_set),
     TEST(exhausted),
     TEST(waits_end_by_the_settings),
+    TEST(waits_at_the_end_of_the_clock),
     TEST(waits_end_by_the_caller),
     TEST(new_objects_that_fail),
     TEST(second_test_of_a_new_object),
@@ -3135,6 +3206,8 @@ static const struct {
     TEST(waits_for_no_store),
     TEST(ended_while_touched),
     TEST(store_that_borrows),
+    TEST(store_that_borrows_in_the_queue),
+    TEST(touch_before_a_slow_store),
     TEST(forked),
     TEST(forked_in_a_store),
     TEST(forked_in_any_call),

@@ -185,8 +185,8 @@ enum zuphinka_pool_error zuphinka_pool_try_get(struct zuphinka_pool *pool, struc
 
 /*
  * Does the same, and waits for an object for at most `milliseconds`, and no longer than the settings say. Neither bounds the time of the
- * callbacks; nor does `zuphinka_pool_try_get`. If the journal is full while another thread stores a segment, a borrow waits until the journal is cut
- * or that thread is done, but no longer than for an object. Then it gets ZUPHINKA_POOL_ERROR_JOURNAL_FULL.
+ * callbacks; nor does `zuphinka_pool_try_get`. If a journal of segments is full while another thread stores one, a borrow waits until the journal is
+ * cut or that thread is done, but no longer than for an object. Then it gets ZUPHINKA_POOL_ERROR_JOURNAL_FULL.
  */
 enum zuphinka_pool_error zuphinka_pool_get_timed(struct zuphinka_pool *pool, uint64_t milliseconds, struct zuphinka_pool_loan *loan);
 

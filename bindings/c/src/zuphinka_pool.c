@@ -68,6 +68,7 @@ struct run {
   uint64_t wakes;               /* of the condition that it is to sleep on, before that */
   int64_t limit;                /* when it waits no longer, besides what the settings say */
   const struct zuphinka_pool_loan *loan; /* whose use it notes, or null */
+  bool has_cut;                 /* it cut the journal; the segment is to be stored once it is over */
 };
 
 /* Settings that a pool is to have from a cut on. */
@@ -124,7 +125,8 @@ static struct snapshot look(struct zuphinka_pool *pool) {
  * loan ends meanwhile; but not if the threads that have an object or are in a call need all processors: it would keep one of them from running. */
 static uint32_t wait_for_wake(struct zuphinka_pool *pool, const struct run *run) {
   struct condition *condition = condition_of(pool, run->next.ticket);
-  int64_t now = monotonic(), end = end_of_wait(run), end_of_pause = least(now + ALL_PAUSES, end);
+  bool is_at_end = run->next.has_until && run->next.until <= run->event.at; /* of the clock, since its time is not over */
+  int64_t now = monotonic(), end = is_at_end ? run->limit : end_of_wait(run), end_of_pause = least(now + ALL_PAUSES, end);
   if (run->limit <= now) return ZUPHINKA_REPORT_GIVEN_UP;
   struct snapshot seen = look(pool);
   if (seen.counts.lent + seen.state.running <= pool->processors) {
@@ -288,12 +290,34 @@ static bool wait_for_cut(struct zuphinka_pool *pool, const struct run *run) {
   return !pool->cutter;
 }
 
-/* Makes room in a full journal, with the lock held before and after. It waits for a cut as long as for an object. Returns the report. */
-static uint32_t make_room(struct zuphinka_pool *pool, const struct run *run) {
+/* Cuts the journal, as the thread that cuts, with the lock held before and after, and not meanwhile. The segment is left: the next borrow stores it, or
+ * the call once it is over. */
+static void cut_alone(struct zuphinka_pool *pool, struct run *run) {
+  pool->cutter = UINT64_C(1) + zuphinka_pool_caller();
+  unlock(pool);
+  run->has_cut = copy_segment(pool, NULL) == ZUPHINKA_POOL_ERROR_NONE;
+  lock(pool);
+  if (run->has_cut) pool->low = UINT64_MAX / 2;
+  pool->cutter = 0;
+  wake(&pool->conditions[CUT]);
+}
+
+/* Stores what a call that is over has cut off, with the lock held before and after, and not meanwhile. */
+static void store_cut(struct zuphinka_pool *pool, const struct run *run) {
+  bool is_left = run->has_cut && pool->unstored.text && !pool->cutter;
+  if (is_left) cut_and_store(pool, pool->host.store, pool->host.context, NULL, NULL);
+}
+
+/* Makes room in a full journal, with the lock held before and after. It waits for a cut as long as for an object. The call may be in the queue, or note a
+ * use: so it stores nothing, unless an older segment is left. Returns the report. */
+static uint32_t make_room(struct zuphinka_pool *pool, struct run *run) {
   uint64_t cuts = pool->cuts;
   if (pool->journal != ZUPHINKA_POOL_JOURNAL_SEGMENTS) return ZUPHINKA_REPORT_NO_ROOM;
   bool has_turn = wait_for_cut(pool, run) && pool->cuts == cuts && !is_refused(pool, run->start.kind);
-  if (has_turn) cut_and_store(pool, pool->host.store, pool->host.context, NULL, NULL);
+  uint64_t steps = 0;
+  zuphinka_steps(&pool->core, &steps);
+  if (has_turn && steps > 0 && !pool->unstored.text) cut_alone(pool, run);
+  else if (has_turn) cut_and_store(pool, pool->host.store, pool->host.context, NULL, NULL);
   return pool->cuts != cuts ? ZUPHINKA_REPORT_ROOM_MADE : ZUPHINKA_REPORT_NO_ROOM;
 }
 
@@ -389,7 +413,10 @@ static enum zuphinka_pool_error borrow(struct zuphinka_pool *pool, int64_t limit
   enum zuphinka_pool_error error = ZUPHINKA_POOL_ERROR_NONE;
   bool has_place = take_place(pool, &place);
   if (!has_place) error = error_of_end(pool, &run);
-  else if (!run_at_once(pool, &run)) error = drive(pool, &run);
+  else if (!run_at_once(pool, &run)) {
+    run.start.at += !pool->host.now && run.at.nanoseconds % (uint64_t)MILLISECOND > 0; /* its wait is as long as it is to be */
+    error = drive(pool, &run);
+  }
   if (!error) {
     pool->places[place] = (struct place){.number = ++pool->last_loan, .lent_at = run.at.nanoseconds};
     *loan = (struct zuphinka_pool_loan){run.next.object, run.next.number, pool->number, place, pool->last_loan};
@@ -398,6 +425,7 @@ static enum zuphinka_pool_error borrow(struct zuphinka_pool *pool, int64_t limit
     free_place(pool, place);
   }
   pool->measures.timeouts += error == ZUPHINKA_POOL_ERROR_TIMED_OUT;
+  if (error) store_cut(pool, &run); /* otherwise the next borrow does: this one's loan has begun */
   unlock(pool);
   return error;
 }
@@ -433,6 +461,7 @@ static enum zuphinka_pool_error end_loan(struct zuphinka_pool *pool, uint32_t ki
       *loan = (struct zuphinka_pool_loan){.id = ZUPHINKA_POOL_NO_LOAN};
     }
   }
+  store_cut(pool, &run);
   unlock(pool);
   return error;
 }
@@ -456,6 +485,7 @@ static enum zuphinka_pool_error call(struct zuphinka_pool *pool, uint32_t kind, 
   if (!error) error = drive(pool, &run);
   if (loan && error_of_loan(pool, loan)) error = error_of_loan(pool, loan);
   else if (error == ZUPHINKA_POOL_ERROR_NOT_LENT) error = ZUPHINKA_POOL_ERROR_GONE; /* as in end_loan */
+  store_cut(pool, &run);
   unlock(pool);
   *last = run.next;
   return error;
