@@ -182,6 +182,10 @@ def times(trial):
     prover = f"(exec -a /x/rattle python3 -c '{works}' --crate-name left %s)"
     done = trial.run("tools/gate_times.py", "bash", "-c", f"echo said; {prover % ''}; {prover % '--test'}; exit 3")
     head, _, *rows = done.stderr.splitlines()
+    other = subprocess.Popen(["bash", "-c", "exec -a $'b\\xff' sleep 60"])
+    yield "beside a name that is no text", 0, trial.run("tools/gate_times.py", "sleep", "2").returncode
+    other.kill()
+    other.wait()
     yield "the command", ("said\n", 3, "| crate | proofs | tests | edits | compiled |"), (done.stdout, done.returncode, head)
     found = {crate: list(map(int, numbers)) for crate, *numbers in (row.replace("|", " ").split() for row in rows)}
     yield "the crates", [*(head.split()[0] for head in CRATES), "all"], sorted(found, key=f"{ALL} other archive all".split().index)

@@ -359,16 +359,16 @@ def installing(trial):
     done = trial.check("--install", "needy", APT="broken")
     yield "it is installed", (["begin needy"], 0), (done.calls, done.status)
     (trial.signs / "tool-dev").unlink()
-    done = trial.check("--install", "needy", PATH=f"{trial.top.parent}/python:{without_apt(trial)}")
+    done = trial.check("--install", "needy", PATH=f"{trial.top.parent}/python:{without(trial, 'apt-get', 'sudo')}")
     yield "no apt-get", ([INSTALL], 3, f"{told}there is no apt-get here; ./check alone skips what needs it\n"), (done.lines, done.status, done.errors)
 
 
-def without_apt(trial):
-    """A folder with the system's commands, except apt-get and sudo."""
-    folder = trial.top.parent / "commands"
+def without(trial, *names):
+    """A folder with the system's commands, except those of these names."""
+    folder = trial.top.parent / "_".join(["without", *names])
     folder.mkdir(exist_ok=True)
     for command in (path for place in ("/bin", "/usr/bin") for path in pathlib.Path(place).iterdir()):
-        if command.name not in ("apt-get", "sudo") and not (folder / command.name).is_symlink():
+        if command.name not in names and not (folder / command.name).is_symlink():
             (folder / command.name).symlink_to(command)
     return folder
 
@@ -377,7 +377,7 @@ def privileged(trial):
     """The words that make a command root's: none for root, those of sudo if it asks for no password."""
     refusing = trial.top.parent / "refusing"
     write(refusing / "sudo", "#!/bin/sh\nexit 1\n", 0o755)
-    with_sudo, commands = trial.top.parent / "bin", without_apt(trial)
+    with_sudo, commands = trial.top.parent / "bin", without(trial, "apt-get", "sudo")
     cases = [(0, commands, []), (1000, commands, None), (1000, f"{with_sudo}:{commands}", ["sudo", "-n"]), (1000, f"{refusing}:{commands}", None)]
     for number, (user, path, wanted) in enumerate(cases):
         with unittest.mock.patch.dict(os.environ, PATH=str(path)):
@@ -432,6 +432,13 @@ def committed(trial):
     yield "no commit where parts are named", False, any("commit" in line for line in done.lines)
     trial.git("commit", "-qam", "mended")
     yield "the commit", f"check: commit {trial.git('rev-parse', 'HEAD').strip()}", trial.check().lines[0]
+    index = trial.top / ".git/index"
+    kept = index.read_bytes()
+    index.write_text("broken")
+    yield "where git cannot tell what changed", True, trial.check().lines[0].endswith("-changed")
+    index.write_bytes(kept)
+    done = trial.check(PATH=f"{trial.top.parent}/bin:{trial.top.parent}/python:{without(trial, 'git')}")
+    yield "without git", (0, "", False), (done.status, done.errors, any("commit" in line for line in done.lines))
 
 
 def without_kit(trial):

@@ -8,7 +8,8 @@ links must be those of the version, it must need nothing but the system's C libr
 shared_life.c of bindings/c/examples, copied to a folder by themselves, must compile with the flags that pkg-config prints for the archive, for the
 shared library and for a static program, and run; only those of the shared library may need it. A second install must replace each file, and leave
 nothing else. A compiler and an `ar` with words after them serve, in a temporary folder with any name; one that isn't there is named, with status 1.
-bindings/c/Makefile must build the library by tools/build.py, which isn't run here, install the same files, and compile the examples. If
+bindings/c/Makefile must build the library by tools/build.py, which isn't run here, install the same files, and compile the examples. What is
+installed can be read by all, whoever may read the clone, and serves under a prefix with a space. If
 pkg-config or make isn't installed, what needs it is skipped, which is printed. Without a library nothing is installed, with status 1.
 
 Prints each run that differs, and in the end the line 'N passed, M failed'.
@@ -19,11 +20,14 @@ import ctypes
 import os
 import pathlib
 import re
+import shlex
 import shutil
 import sys
 
 from play_library import EXAMPLES, FLAGS, INCLUDE, PLAIN_LIFE, TOP, compiler
 from playing import ended, has, play_checks, run, scratch
+
+from install import heap_of_kit
 
 SOURCES = TOP / "bindings/c/src"
 # The installed files by their paths, each with its source.
@@ -94,7 +98,7 @@ Kind = collections.namedtuple("Kind", "name flags needs environment", defaults=[
 def kinds(prefix):
     """The ways to link a program, by the flags of pkg-config."""
     archive, shared, static = (
-        told_by_pkg_config(prefix, "--cflags", "--libs", *words).stdout.decode().split()
+        shlex.split(told_by_pkg_config(prefix, "--cflags", "--libs", *words).stdout.decode())
         for words in (["zuphinka-static"], ["zuphinka"], ["--static", "zuphinka"])
     )
     yield Kind("with the archive", archive, [])
@@ -155,9 +159,21 @@ def commands(folder, library):
     yield "no compiler", (1, b"/nowhere/cc: No such file or directory\n"), (done.returncode, done.stderr)
 
 
-def make(*words):
+def modes(folder, library):
+    """The modes of what is installed from a clone that nobody else may read."""
+    clone, prefix = folder / "clone", folder / "readable"
+    for name in "tools", "bindings/c":
+        shutil.copytree(TOP / name, clone / name, ignore=shutil.ignore_patterns("out"))
+    shutil.copy(TOP / "VERSION", clone)
+    for file in (path for path in clone.rglob("*") if path.is_file()):
+        file.chmod(0o600)
+    yield "an install from such a clone", 0, run(sys.executable, clone / "tools/install.py", "--prefix", prefix, "--library", library).returncode
+    yield "the modes", {0o644, 0o755}, {path.lstat().st_mode & 0o777 for path in prefix.rglob("*") if path.is_file() and not path.is_symlink()}
+
+
+def make(*words, **options):
     """Runs make in bindings/c, as if the library were just built."""
-    return run("make", "--no-print-directory", "--old-file=library", "-C", TOP / "bindings/c", *words)
+    return run("make", "--no-print-directory", "--old-file=library", "-C", TOP / "bindings/c", *words, **options)
 
 
 def compiled_by_make(out):
@@ -171,6 +187,11 @@ def compiled_by_make(out):
     yield "make clean", (0, False), (make("clean", f"OUT={out}").returncode, out.exists())
 
 
+def named(prefix):
+    """The first lines of the files for pkg-config, which name a prefix."""
+    return [(prefix / f"lib/pkgconfig/{name}.pc").read_text().partition("\n")[0] for name in ("zuphinka", "zuphinka-static")]
+
+
 def by_make(prefix, folder):
     """The targets of the Makefile, whose install has the files of that under a prefix."""
     stage = folder / "stage"
@@ -178,8 +199,14 @@ def by_make(prefix, folder):
     yield "make", (b"python3 ../../tools/build.py zuphinka\n", b"", 0), ended(built)
     yield "make install", 0, make("install", "PREFIX=/usr", f"DESTDIR={stage}").returncode
     yield "the files of make install", sorted(f"usr/{name}" for name in files(prefix)), sorted(files(stage))
-    descriptions = [(stage / f"usr/lib/pkgconfig/{name}.pc").read_text() for name in ("zuphinka", "zuphinka-static")]
-    yield "the prefix of make install", ["prefix=/usr"] * 2, [text.partition("\n")[0] for text in descriptions]
+    yield "the prefix of make install", ["prefix=/usr"] * 2, named(stage / "usr")
+    (folder / "link").symlink_to(folder / "target")
+    yield "make install to a link", 0, make("install", f"PREFIX={folder}/link", f"DESTDIR={stage}").returncode
+    yield "the prefix that is a link", [f"prefix={folder}/link"] * 2, named(stage / (folder / "link").relative_to("/"))
+    yield "make install without a prefix", 0, make("install", "PREFIX=", f"DESTDIR={stage}/root").returncode
+    yield "its files", sorted(files(prefix)), sorted(files(stage / "root"))
+    heap, path = f"HEAP={heap_of_kit()}", os.pathsep.join(place for place in os.environ["PATH"].split(os.pathsep) if not (pathlib.Path(place) / "rt").exists())
+    yield "make install without rt", 0, make("install", heap, f"PREFIX={folder}/heap", env=os.environ | {"PATH": path}).returncode
     yield from compiled_by_make(folder / "out")
 
 
@@ -206,6 +233,10 @@ def checks(library):
         yield "no library", (1, True, False), (done.returncode, b"none.a: no such file" in done.stderr, (folder / "nothing").exists())
         yield from installed_files(folder / "prefix", library)
         yield from commands(folder, library)
+        yield from modes(folder, library)
+        if has("programs under a prefix with a space", "pkgconf"):
+            yield "an install under a prefix with a space", 0, install(folder / "a b", library).returncode
+            yield from programs(folder / "a b")
         if has("bindings/c/Makefile", "make"):
             yield from by_make(folder / "prefix", folder)
 

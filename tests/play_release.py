@@ -100,6 +100,7 @@ def logs(clone, folder):
         f"check: commit {commit}\n12 passed, 0 failed, 3 skipped\nmore\n": 1,
         f"check: commit {'0' * 40}\n12 passed, 0 failed, 3 skipped\n": 1,
         "12 passed, 0 failed, 3 skipped\n": 1,
+        f"check: commit {commit}\n12 passed, 1 failed, 0 skipped\n12 passed, 0 failed, 3 skipped\n": 1,
         f"check: commit {commit}\nelse\n12 passed, 0 failed, 3 skipped\n": 1 if is_changed else 0,
     }
     for number, (text, wanted) in enumerate(cases.items()):
@@ -236,6 +237,8 @@ def trials(clone, folder):
         tar.extractall(folder / "unpacked")
     top = folder / "unpacked" / one.name.removesuffix(".tar.gz")
     yield "without a log", True, "# ./check: not passed: " in (top / "PROVED").read_text()
+    pages = [(page, link) for page in top.rglob("*.md") for link in re.findall(r"\]\((?!\w+:)([^)#\s]+)", page.read_text())]
+    yield "links of pages to files that are not there", [], [f"{page}: {link}" for page, link in pages if not (page.parent / link).exists()]
     for part in checksums, commands, java_part, programs:
         yield from part(top)
 

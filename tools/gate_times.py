@@ -23,9 +23,9 @@ TICK = os.sysconf("SC_CLK_TCK")
 def run_of(process):
     """A run of the prover: what tells it from others, its crate, what it is for, and its processor seconds. None if a process is no such run."""
     try:
-        words = (process / "cmdline").read_text().split("\0")
+        words = (process / "cmdline").read_text(errors="replace").split("\0")
         folder = os.readlink(process / "cwd")
-        fields = (process / "stat").read_text().rpartition(")")[2].split()
+        fields = (process / "stat").read_text(errors="replace").rpartition(")")[2].split()
     except OSError:
         return None
     if not words[0].endswith("/rattle") or "--crate-name" not in words:

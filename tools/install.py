@@ -43,7 +43,7 @@ POOL = SOURCES / "zuphinka_pool.c"
 # The source of the pool, and the headers that it alone includes.
 POOL_SOURCES = [POOL, *sorted(SOURCES.glob("zuphinka_pool_*.h"))]
 # What pkg-config prints for the linker, by the name of its file.
-LINKED = {"zuphinka": "-L${libdir} -lzuphinka", "zuphinka-static": "${libdir}/libzuphinka.a"}
+LINKED = {"zuphinka": '-L"${libdir}" -lzuphinka', "zuphinka-static": '-L"${libdir}" -l:libzuphinka.a'}
 PKG_CONFIG = """prefix={prefix}
 includedir=${{prefix}}/include
 libdir=${{prefix}}/lib
@@ -52,7 +52,7 @@ Name: {name}
 Description: An object pool whose decisions are proved, and a pool for threads over it
 Version: {version}
 License: Apache-2.0
-Cflags: -I${{includedir}} -pthread
+Cflags: -I"${{includedir}}" -pthread
 Libs: {linked} -pthread
 """
 # A function that a header declares, without a body, and that is no type.
@@ -64,7 +64,7 @@ def heap_of_kit():
     try:
         page = subprocess.run(["rt", "doc"], capture_output=True, text=True, check=True).stdout.split()[0]
     except (OSError, subprocess.CalledProcessError, IndexError):
-        sys.exit("rt: not on the PATH; tools/install.py takes the kit's liblibc_c.a by --heap")
+        sys.exit("rt: not on the PATH; tools/install.py takes the kit's liblibc_c.a by --heap, and bindings/c/Makefile by HEAP=")
     return pathlib.Path(page).parent / "c/liblibc_c.a"
 
 
@@ -119,6 +119,8 @@ def put(file, folder):
     there, part = folder / file.name, folder / f".{file.name}.part"
     part.unlink(missing_ok=True)
     shutil.copy(file, part, follow_symlinks=False)
+    if not part.is_symlink():
+        part.chmod(0o755 if file.stat().st_mode & 0o100 else 0o644)
     os.replace(part, there)
     return there
 
@@ -145,6 +147,7 @@ def install(prefix, named, library, heap):
     for name, linked in LINKED.items():
         description = lib / f"pkgconfig/{name}.pc"
         description.write_text(PKG_CONFIG.format(prefix=named, name=name, version=version(), linked=linked))
+        description.chmod(0o644)
         installed.append(description)
     return installed
 
@@ -160,7 +163,7 @@ def main():
     for file in given.library, heap:
         if not file.is_file():
             sys.exit(f"{file}: no such file; python3 tools/build.py zuphinka builds the library")
-    prefix = given.prefix.resolve()
+    prefix = pathlib.Path(os.path.abspath(given.prefix))
     place = pathlib.Path(given.destdir).resolve() / prefix.relative_to("/") if given.destdir else prefix
     print(*install(place, prefix, given.library, heap), sep="\n")
 

@@ -42,6 +42,10 @@ CRATE = ("Cargo.toml", "Cargo.lock", "build.rs", "README.md", "src", "examples")
 JAVA_SECTION = "\n## Java\n"
 COMMIT = re.compile(r"check: commit (\S+)")
 PASSED = re.compile(r"[1-9]\d* passed, 0 failed, \d+ skipped")
+# The last line of any run of ./check.
+ENDED = re.compile(r"\d+ passed, \d+ failed, \d+ skipped")
+# A link of a page to a file: its words, and the file.
+LINK = re.compile(r"\[([^\]]*)\]\(((?!\w+:)[^)#\s]+)[^)]*\)")
 PROVED = """# zuphinka {version} for Linux on x86-64
 # ./check: {verdict}
 # commit {commit}, of {time}
@@ -56,6 +60,8 @@ def verdict(gate, commit):
         return "not passed: no log of it was given"
     lines = gate.read_text(errors="replace").splitlines() or [""]
     of_commit = next((found[1] for found in map(COMMIT.fullmatch, lines) if found), "none")
+    if (number := sum(1 for line in lines if ENDED.fullmatch(line))) > 1:
+        sys.exit(f"{gate}: the log of one ./check is wanted, and this is of {number}")
     if not PASSED.fullmatch(lines[-1]):
         sys.exit(f"{gate}: the last line of ./check that passed is 'N passed, 0 failed, K skipped', and this is {lines[-1]!r}")
     if commit.endswith("-changed") or of_commit != commit:
@@ -78,6 +84,11 @@ def built(crate, top):
     return file
 
 
+def not_of_commit(folder, names):
+    """Those of the names in a folder that `shutil.copytree` passes over."""
+    return {*names} - sources.of_commit(folder)
+
+
 def lay_out(stage, programs):
     """Puts all files in their places, except the README, PROVED and those for Java."""
     shown = "${pcfiledir}/../.."
@@ -85,7 +96,7 @@ def lay_out(stage, programs):
     crate = stage / "rust/zuphinka"
     places = {stage / "bin": [built(name, programs) for name in PROGRAMS], stage / "share/man/man1": [TOP / "docs/pool.1"]}
     places[stage / "examples"] = [TOP / "bindings/c/examples" / name for name in C_EXAMPLES]
-    places[stage / "examples"] += [path for path in (TOP / "examples").iterdir() if path.name != "README.md"]
+    places[stage / "examples"] += [TOP / "examples" / name for name in sources.of_commit(TOP / "examples") - {"README.md"}]
     places[stage] = [TOP / "LICENSE", TOP / "CHANGELOG.md"]
     places[crate / "lib"] = [stage / "lib/libzuphinka.a"]
     for folder, files in places.items():
@@ -95,7 +106,7 @@ def lay_out(stage, programs):
     for name in CRATE:
         whole = TOP / "bindings/rust" / name
         if whole.is_dir():
-            shutil.copytree(whole, crate / name, ignore=shutil.ignore_patterns("target*", "Cargo.lock"))
+            shutil.copytree(whole, crate / name, ignore=not_of_commit)
         else:
             shutil.copy(whole, crate / name)
 
@@ -103,7 +114,7 @@ def lay_out(stage, programs):
 def lay_out_java(stage, programs):
     """Builds the jars, and puts them, their page and the examples in their places."""
     folder = stage / "java"
-    shutil.copytree(java.JAVA / "examples", folder / "examples")
+    shutil.copytree(java.JAVA / "examples", folder / "examples", ignore=not_of_commit)
     shutil.copy(java.JAVA / "README.md", folder)
     with tempfile.TemporaryDirectory() as out:
         jar = java.build(built(LIBRARY, programs), install.heap_of_kit(), pathlib.Path(out))
@@ -115,6 +126,12 @@ def describe(stage, has_java):
     """Writes the README."""
     text = (TOP / "tools/release_readme.md").read_text().replace("VERSION", install.version(), 1)
     (stage / "README.md").write_text(text if has_java else text.partition(JAVA_SECTION)[0])
+
+
+def unlink(stage):
+    """Takes out of the pages the links to what the archive has not. Their words stay."""
+    for page in stage.rglob("*.md"):
+        page.write_text(LINK.sub(lambda link: link[0 if (page.parent / link[2]).exists() else 1], page.read_text()))
 
 
 def prove(stage, said, commit):
@@ -165,6 +182,7 @@ def main():
         if not given.without_java:
             lay_out_java(stage, programs)
         describe(stage, not given.without_java)
+        unlink(stage)
         prove(stage, said, commit)
         pack(stage, archive)
     print(archive)

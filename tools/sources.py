@@ -83,15 +83,24 @@ def kit():
 
 
 def git(*words):
-    """What a command of git writes, or nothing where it fails."""
-    done = subprocess.run(["git", *words], cwd=TOP, stdout=subprocess.PIPE, stderr=subprocess.DEVNULL, text=True)
-    return done.stdout.strip() if done.returncode == 0 else ""
+    """What a command of git writes, or `None` where it fails or there is no git."""
+    try:
+        done = subprocess.run(["git", *words], cwd=TOP, stdout=subprocess.PIPE, stderr=subprocess.DEVNULL, text=True)
+    except OSError:
+        return None
+    return done.stdout.strip() if done.returncode == 0 else None
 
 
 def checked_out():
-    """The commit that is checked out, followed by -changed where files here aren't those of it; or nothing where there is none."""
-    commit = git("rev-parse", "HEAD")
-    return commit and commit + "-changed" * (git("status", "--porcelain") != "")
+    """The commit that is checked out, followed by -changed where files here aren't those of it, or git can't tell; or `None` where there is none, as in
+    a folder of another repository."""
+    commit = git("rev-parse", "HEAD") if git("rev-parse", "--show-prefix") == "" else None
+    return commit and commit + "-changed" * (git("status", "--porcelain", "--untracked-files=all") != "")
+
+
+def of_commit(folder):
+    """The names in a folder, but for what git ignores, such as files of editors."""
+    return {name.partition("/")[0] for name in (git("-C", str(folder), "ls-files", "--cached", "--others", "--exclude-standard") or "").splitlines()}
 
 
 def files_of(folder):
