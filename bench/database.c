@@ -112,7 +112,7 @@ static void destroy(void *context, void *object) {
 }
 
 static void open_zuphinka(void) {
-  struct zuphinka_pool_host host = {.make = make, .validate = validate, .destroy = destroy, .max_overtakes = INT32_MAX};
+  struct zuphinka_pool_host host = {.size = sizeof host, .make = make, .validate = validate, .destroy = destroy, .max_overtakes = INT32_MAX};
   expect(zuphinka_pool_open(&pool, SETTINGS, strlen(SETTINGS), &host, ZUPHINKA_POOL_JOURNAL_OFF));
 }
 

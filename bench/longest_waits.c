@@ -94,7 +94,7 @@ int main(int count, char **words) {
   uint64_t *times = calloc(waits ? waits : 1, sizeof *times);
   if (!waits || !times) fail("longest_waits HOLD WAITS");
   hold = strtoull(words[1], NULL, 10);
-  struct zuphinka_pool_host host = {.make = make, .destroy = destroy};
+  struct zuphinka_pool_host host = {.size = sizeof host, .make = make, .destroy = destroy};
   expect(zuphinka_pool_open(&pool, SETTINGS, strlen(SETTINGS), &host, ZUPHINKA_POOL_JOURNAL_OFF));
   pthread_t thread;
   if (pthread_create(&thread, NULL, borrow_again, NULL)) fail("no thread");

@@ -1,6 +1,6 @@
-/* Threads that borrow an object of a C pool and return it, for `bench/peers`: `pairs_c OBJECTS THREADS ROUNDS`.
+/* Threads that borrow an object of a C pool and return it, for `bench/peers` and `bench/instructions`: `pairs_c OBJECTS THREADS ROUNDS [hooks]`.
  *
- * The pool keeps no journal and no callback runs at a borrow or a return. Times come from CLOCK_MONOTONIC. All threads begin at the same time, and each
+ * The pool keeps no journal. With `hooks` a callback that does nothing runs at each borrow and each return, and otherwise none. Times come from CLOCK_MONOTONIC. All threads begin at the same time, and each
  * does ROUNDS rounds. Prints the pairs, which are the uses of all objects, and the objects that were created.
  */
 #define _POSIX_C_SOURCE 200809L
@@ -9,6 +9,7 @@
 #include <pthread.h>
 #include <stdio.h>
 #include <stdlib.h>
+#include <string.h>
 
 #include "zuphinka_pool.h"
 
@@ -46,6 +47,11 @@ static void destroy(void *context, void *object) {
   free(object);
 }
 
+static bool do_nothing(void *context, void *object) {
+  (void)context, (void)object;
+  return true;
+}
+
 static void *work(void *argument) {
   struct task *task = argument;
   pthread_barrier_wait(&task->start);
@@ -68,13 +74,15 @@ static void run_threads(struct task *task, unsigned threads) {
 }
 
 int main(int count, char **words) {
-  struct task task = {.rounds = count == 4 ? strtoull(words[3], NULL, 10) : 0};
-  unsigned long threads = count == 4 ? strtoul(words[2], NULL, 10) : 0;
-  if (threads < 1 || threads > MOST_THREADS) fail("pairs_c OBJECTS THREADS ROUNDS");
+  bool has_hooks = count == 5 && strcmp(words[4], "hooks") == 0, is_asked = count == 4 || has_hooks;
+  struct task task = {.rounds = is_asked ? strtoull(words[3], NULL, 10) : 0};
+  unsigned long threads = is_asked ? strtoul(words[2], NULL, 10) : 0;
+  if (threads < 1 || threads > MOST_THREADS) fail("pairs_c OBJECTS THREADS ROUNDS [hooks]");
   char settings[LONGEST_SETTINGS];
   int size = snprintf(settings, sizeof settings, "journalLimit = 4294967296\nmaxTotal = %s\nmaxIdle = %s\n", words[1], words[1]);
   if (size >= LONGEST_SETTINGS) fail("too many objects");
-  struct zuphinka_pool_host host = {.context = &task, .make = make, .destroy = destroy};
+  struct zuphinka_pool_host host = {.size = sizeof host, .context = &task, .make = make, .destroy = destroy};
+  if (has_hooks) host.activate = host.passivate = do_nothing;
   expect(zuphinka_pool_open(&task.pool, settings, (size_t)size, &host, ZUPHINKA_POOL_JOURNAL_OFF));
   run_threads(&task, (unsigned)threads);
   expect(zuphinka_pool_end(task.pool));

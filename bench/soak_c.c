@@ -174,7 +174,7 @@ int main(int count, char **words) {
   if (length <= 0 || (!is_timed && strcmp(words[1], "pairs"))) fail("soak_c pairs N, or soak_c seconds N");
   left = is_timed ? UINT64_MAX : (uint64_t)length;
   struct zuphinka_pool *pool;
-  struct zuphinka_pool_host host = {.make = make_tool, .destroy = destroy_tool};
+  struct zuphinka_pool_host host = {.size = sizeof host, .make = make_tool, .destroy = destroy_tool};
   expect(zuphinka_pool_open(&pool, SETTINGS, strlen(SETTINGS), &host, ZUPHINKA_POOL_JOURNAL_OFF));
   uint64_t early, late;
   run(pool, &early, &late);

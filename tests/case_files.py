@@ -173,10 +173,15 @@ def files_of(paths):
 
 
 def read_cases(*paths):
-    """The cases of files, and of all files below folders. Their names begin with those of their files."""
+    """The cases of files, and of all files below folders. Their names begin with those of their files. With those of all files come the ones that
+    make_cases.py makes from seeds."""
     for path in files_of(paths):
         for case in read_file(path)[1]:
             yield dataclasses.replace(case, name=full_name(path, case))
+    if CASES in (pathlib.Path(path).resolve() for path in paths):
+        import make_cases
+
+        yield from make_cases.seeded()
 
 
 def unpacked(room, *paths):

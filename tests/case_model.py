@@ -19,7 +19,7 @@ OF_CALLERS = {"testOnBorrow", "testOnCreate", "testOnReturn"}
 KEYS = {*DEFAULTS, *OF_CALLERS, "abandoned"}
 # Characters that a line shows otherwise, if one of them is a control character.
 SHORT = {"\b": "\\b", "\t": "\\t", "\n": "\\n", "\f": "\\f", "\r": "\\r", "\\": "\\\\"}
-CONTROL = re.compile(r"[\x00-\x1f\x7f]")
+CONTROL = re.compile(r"[\x00-\x1f\x7f-\x9f]")
 STATISTICS = ("borrowed", "returned", "created", "destroyed", "evicted", "borrowtestfailed", "reclaimed", "longest", "total")
 
 
@@ -133,5 +133,5 @@ def answer_to_settings(text):
     if fault is None:
         return b"ok\n"
     if CONTROL.search(fault):
-        fault = re.sub(r"[\x00-\x1f\x7f\\]", lambda found: SHORT.get(found[0]) or f"\\u{ord(found[0]):04X}", fault)
+        fault = re.sub(r"[\x00-\x1f\x7f-\x9f\\]", lambda found: SHORT.get(found[0]) or f"\\u{ord(found[0]):04X}", fault)
     return f"pool: settings: {fault}\n".encode()

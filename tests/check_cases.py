@@ -13,7 +13,7 @@ import re
 import sys
 
 from case_files import CASES, Case, CaseError, read_cases, read_file, written
-from make_cases import SEEDED, files_made, remade
+from make_cases import files_made, remade
 from playing import play_checks, run, scratch
 
 GOOD = """# A heading.
@@ -93,7 +93,6 @@ def check_made():
     """Each file of cases, and how it differs from that which is made."""
     for path, made in files_made():
         yield path.relative_to(CASES), None, first_difference(path.read_text(), made)
-    yield "the files of seeds", set(), set(SEEDED) - {path.relative_to(CASES).as_posix() for path in CASES.rglob("*.toml")}
 
 
 def outcome(work, *words):
@@ -124,9 +123,9 @@ def check_new(folder):
 
 
 def check_copies():
-    """Each case, and the name of another one that is the same."""
+    """Each case of a file, and the name of another one that is the same."""
     known = {}
-    for case in read_cases(CASES):
+    for case in read_cases(*(path for path in CASES.iterdir() if path.is_dir())):
         contents = tuple(sorted(case.files().items()))
         yield f"{case.name}, a copy", case.name, known.setdefault(contents, case.name)
 

@@ -9,8 +9,8 @@ sentence that says for whom it is. Each source in Rattle and of the Rust crate b
 The diffs of CONTRIBUTING.md fit the sources.
 
 Each block between fences in README.md and docs/guide says its language. A block of Rust, C or Java is one contiguous piece of a file that is compiled,
-except for how far it is indented: nothing is left out. A block of sh is on a page whose commands a test of its own runs. README.md shows code, and has
-at most 150 lines.
+except for how far it is indented: nothing is left out. A block of sh is on a page whose commands a test of its own runs. README.md has at most
+90 lines.
 """
 
 import functools
@@ -27,6 +27,8 @@ FOREIGN = re.compile(
     r"(get|list|log|use|add|prepare|evictor|timeBetween|max)[A-Z]\w*$|\w+ObjectPool$|DestroyMode$|Millis$|(Lts|Tie|Proof)$|IsPartitionPoint-from_clause$"
 )
 ABSENT = {"proofs/Phrases.antt", "src/phrases.rt", "OnNone"}
+# Files that a pool writes.
+WRITTEN = {"start.toml", "callers.txt"}
 # The words with which names of predicates begin.
 BEGINNINGS = {"Is", "Has"}
 PLACEHOLDER = re.compile(r"[A-Z]*NAME|[<*]|X_")
@@ -34,7 +36,7 @@ FILE = re.compile(r"(?!\.\./)[\w./-]*(?:/|\.(?:antt|rt|py|md|toml|txt|c|rs|svg|s
 NAME = re.compile(r"[^\W\d]\w*(?:-\w+)*$")
 OPENING = re.compile(r"# .+\n\nThis page is for [^.]+\.\n\n")
 OWNED = re.compile(r"[^\W\d]\w*::\w+$")
-DECLARED = r"^(?:(?:abbrev|unfoldable|record|data|pub|mod) )+%s\b"
+DECLARED = r"^ *(?:(?:abbrev|unfoldable|record|data|pub|mod) )+%s\b"
 SAID = r"\b(?:ensures|ghost|pub (?:trait|struct|enum|fn)|pub\(crate\) fn) %s\b"
 # The sources besides those of the crates.
 OTHERS = (
@@ -48,7 +50,7 @@ OTHERS = (
 FENCE = re.compile(r"^```([^\n]*)\n(.*?)^```$", re.MULTILINE | re.DOTALL)
 COMPILED = ("crates/example_server/src/*.rt", "bindings/c/examples/*.c", "bindings/rust/examples/*.rs", "bindings/java/examples/*.java")
 RUN_ELSEWHERE = {"audits.md"}
-LONGEST_README = 150
+LONGEST_README = 90
 
 
 @functools.cache
@@ -103,7 +105,7 @@ def is_owned(owner, name):
 
 def fault_of_name(token, crate):
     """Why a name between backquotes is none, if it isn't. Of several words only files are looked at."""
-    if PLACEHOLDER.search(token) or token in ABSENT | BEGINNINGS or FOREIGN.match(token):
+    if PLACEHOLDER.search(token) or token in ABSENT | WRITTEN | BEGINNINGS or FOREIGN.match(token):
         return None
     if " " in token:
         return next((f"no file {word}" for word in token.split(" ") if FILE.match(word) and not is_file(word, crate)), None)
@@ -215,7 +217,6 @@ def check_code(page):
 
 def check_readme(page):
     text = page.read_text()
-    yield "its code", None if FENCE.search(text) else "there is none"
     yield "its length", None if text.count("\n") <= LONGEST_README else f"{text.count(chr(10))} lines"
 
 

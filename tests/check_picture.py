@@ -218,7 +218,7 @@ def made_journals(folder):
 def pool_journals(folder):
     """Journals as a pool makes them, each as its segments: files, and all of them in one."""
     settings = settings_of(SETTINGS)
-    for length, positions in ((400, {1, 100, 101, 399}), (12_000, {5_000, 11_999}), (100_000, {10_000, 33_333, 90_000})):
+    for length, positions in ((400, {1, 150, 151, 399}), (12_000, {5_000, 11_999}), (100_000, {10_000, 33_333, 90_000})):
         text = journal_by_chance(settings, length)
         segments, name = cut_at(settings, text, positions), f"pool-{length}"
         texts = {name: text, f"{name}.stream": b"".join(segments)} | {f"{name}.{number}": segment for number, segment in enumerate(segments)}

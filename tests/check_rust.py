@@ -1,8 +1,8 @@
 """Builds the Rust crate in bindings/rust, and sees that its tests pass and its examples do what they say.
 
-    check_rust.py POOL [JUDGE]
+    check_rust.py POOL JUDGE
 
-POOL and JUDGE are the programs `pool` and `judge`, or POOL is tests/model_program.py, alone. The crate's tests are cargo's: those in its files, in
+POOL and JUDGE are the programs `pool` and `judge`, or both are tests/model_program.py. The crate's tests are cargo's: those in its files, in
 tests/ and in its pages. The segments that the examples `first_loan` and `servers` store are judged by the program; what the example `settings` writes
 of a file must be what Python reads there; the example `pairs` must make as many entries as its rounds are, whatever becomes of its journal, and the
 segments that it stores are judged too; the segments of pools whose settings change, which a test stores, are legal with the settings that each has;
@@ -19,10 +19,9 @@ import re
 import sys
 import tomllib
 
-import changed_settings
 import openmetrics
 from case_files import CASES, unpacked
-from playing import NO_CARGO, TOP, has, play_checks, run, scratch, skip_all, stored_journal
+from playing import NO_CARGO, TOP, ended, has, play_checks, run, scratch, skip_all, start_of, stored_journal
 
 from contest import REGISTRY, built_by_cargo, of_registry, runs_cargo
 from entrants import numbers
@@ -142,22 +141,50 @@ def check_metrics(file):
     yield "there are texts of metrics", True, len(texts) > 2 or len(texts)
 
 
-def check_changes(judge, pool, folder):
-    """The journals that a test stores of pools whose settings change: each segment alone, if there is `judge`, and all of them by one check."""
-    journals = sorted(folder.iterdir()) if folder.is_dir() else []
+def check_changes(judge, folder):
+    """The journals that a test stores of pools whose settings change: each segment is legal with its settings."""
+    journals = sorted(map(start_of, folder.iterdir())) if folder.is_dir() else []
     yield "there are journals of pools whose settings change", True, bool(journals)
     for journal in journals:
-        if judge:
-            yield f"{journal.name}: each segment", None, changed_settings.judged(judge, journal)[0]
-        yield f"{journal.name}: all segments", *stored_journal(pool, journal)
+        entries = sum(path.read_bytes().count(b" = ") for path in journal.glob("segment-*"))
+        yield f"{journal.parent.name}: all segments", (b"legal %d\n" % entries, b"", 0), ended(run(judge, journal))
 
 
-def checks(pool, judge=None):
+def check_documentation():
+    """The documentation is built where there is no library, as on docs.rs, and no link in it is broken."""
+    with scratch() as folder:
+        variables = {"DOCS_RS": "1", "ZUPHINKA_LIB": str(folder), "RUSTDOCFLAGS": "-D warnings"}
+        command = ["cargo", "doc", "--no-deps", "--offline", "--target-dir", str(folder / "target")]
+        done = run(*command, cwd=CRATE, env=os.environ | variables, text=True)
+        yield "the documentation without the library", 0, done.returncode and done
+
+
+def check_targets():
+    """Where the crate cannot work it does not compile, and says why. Its first lines are compiled alone, without std, which only the own target has. For
+    such a target the build script looks for no library."""
+    wanted = re.search(r'^#\[cfg\(not\(all\(.*?^compile_error!\("(.*?)"\);$', (CRATE / "src/lib.rs").read_text(), flags=re.DOTALL | re.MULTILINE)
+    alone = "#![feature(no_core, rustc_attrs)]\n#![no_core]\n#[rustc_builtin_macro]\nmacro_rules! compile_error { ($text:expr) => {} }\n"
+    targets = {"x86_64-unknown-linux-gnu": ("linux", "x86_64"), "aarch64-unknown-linux-gnu": ("linux", "aarch64"), "x86_64-apple-darwin": ("macos", "x86_64")}
+    with scratch() as folder:
+        lines, script = folder / "lines.rs", folder / "build"
+        lines.write_text(alone + (wanted[0] if wanted else ""))
+        run("rustc", "--edition", "2021", "-o", str(script), str(CRATE / "build.rs"))
+        for number, (target, (system, machine)) in enumerate(targets.items()):
+            command = ["rustc", "--crate-type", "lib", "--emit", "metadata", "--target", target, "-o", str(folder / "metadata"), str(lines)]
+            done = run(*command, env=os.environ | {"RUSTC_BOOTSTRAP": "1"}, text=True)
+            told = re.findall(r"^error: (zuphinka .*)$", done.stderr, flags=re.MULTILINE)
+            yield f"the crate for {target}", [wanted[1]] if wanted and number else [], told if done.returncode == bool(number) else done
+            variables = {"CARGO_CFG_TARGET_OS": system, "CARGO_CFG_TARGET_ARCH": machine, "CARGO_MANIFEST_DIR": str(CRATE), "OUT_DIR": str(folder)}
+            done = run(script, env=os.environ | variables | {"ZUPHINKA_LIB": str(folder)}, text=True)
+            yield f"the build script for {target}, without a library", int(not number), done.returncode
+
+
+def checks(pool, judge):
     program = str(pathlib.Path(pool).resolve())
     with scratch() as folder:
         yield from tests(CRATE, ZUPHINKA_POOL=program, ZUPHINKA_METRICS=str(folder / "metrics"), ZUPHINKA_CHANGES=str(folder / "changes"))
         yield from check_metrics(folder / "metrics")
-        yield from check_changes(judge, pool, folder / "changes")
+        yield from check_changes(judge, folder / "changes")
     if has("tests/tokio_trial", "librust-tokio-dev"):
         yield from tests(TRIAL, *of_registry(REGISTRY), ZUPHINKA_POOL=program)
     examples = built_by_cargo(CRATE, "--examples") / "examples"
@@ -165,7 +192,7 @@ def checks(pool, judge=None):
         yield from check_stored(examples / name, printed, pool)
     yield from check_settings(examples / "settings")
     yield from check_pairs(examples / "pairs", pool)
-    for check in check_examples, check_trial, check_binding:
+    for check in check_examples, check_trial, check_binding, check_documentation, check_targets:
         yield from check()
 
 

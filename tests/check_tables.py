@@ -3,13 +3,11 @@
 check_tables.py  The last line is 'N passed, M failed'.
 
 Each setting has the default that the definitions say, in docs/guide/settings.md and in examples/settings.toml; the answers to each input are the same
-in docs/guide/program.md and docs/proof/definitions.md; each of them is given in the case that docs/proof/definitions.md names; docs/dev/trials.md has
-a row for each file of tests of the shared pool; the outstanding entries and the room of docs/guide/operations.md follow from the definitions; and
-docs/proof/edits.md has a row for each edit of crates/*/must-fail, in the section of its crate, which names the function that it changes, and several
-rows for one that makes a mistake in each of several functions. The name of each crate begins as its section of crates.txt requires,
+in docs/guide/program.md and docs/proof/definitions.md; each of them is given in the case that docs/proof/definitions.md names; and the
+outstanding entries and the room of docs/guide/operations.md follow from the definitions. The name of each crate begins as its section of crates.txt requires,
 docs/dev/architecture.md has a paragraph on it, and docs/pictures/crates.svg shows what its script draws. Each move that a journal of the cases makes
 is in the table of moves in docs/guide/concepts.md, each outcome there is met by some move, and docs/pictures/life.svg shows the table.
-docs/guide/differences.md and docs/guide/commons-pool-tests.md name the same tests, for the same differences. Each ratio that the page of a language
+Each test of Commons Pool 2 that fails has a difference in docs/guide/differences.md. Each ratio that the page of a language
 shows is that of docs/guide/speed.md, and docs/guide/platforms.md has the versions that the package files ask for; these have the licence. Each choice
 of docs/DECISIONS.md has an id of its group, and each id that a page or a source cites is there.
 """
@@ -22,17 +20,13 @@ import tomllib
 import picture_model
 from case_files import CASES, read_cases
 from check_names import PAGES, TOP, backquoted, rows_in, sources, tables
-from play_mutants import function_at, replacements
 from playing import play_checks
 
 import draw_graphs
 import install
 import java
-from sources import MISTAKES, libraries
 
 DEFINITIONS = TOP / "docs/proof/definitions.md"
-EDITS = TOP / "docs/proof/edits.md"
-COMMONS_POOL_TESTS = TOP / "docs/guide/commons-pool-tests.md"
 SPEED = TOP / "docs/guide/speed.md"
 # The pages that repeat ratios of docs/guide/speed.md.
 PAGES_OF_LANGUAGES = ("docs/guide/c.md", "bindings/rust/README.md", "bindings/java/README.md")
@@ -114,13 +108,6 @@ def check_life():
     yield "docs/pictures/life.svg shows what docs/pictures/draw_graphs.py draws", draw_graphs.life(page).wanted(), shown
 
 
-def check_trials():
-    rows = {name for row in tables(TOP / "docs/dev/trials.md") for name in backquoted(row.get("Tests", ""))}
-    files = {path.stem for path in (TOP / "crates/test_threads/src").glob("*.rt") if "#[test]" in path.read_text()}
-    for name in sorted(rows | files):
-        yield f"docs/dev/trials.md: {name}: a file and a row", (True, True), (name in files, name in rows)
-
-
 def check_room():
     """The outstanding entries of each phase, and the room that each step needs: its entry, and the rise in the number of outstanding entries."""
     text = (TOP / "crates/pool_places/specs/Counts.antt").read_text()
@@ -141,41 +128,6 @@ def check_room():
         yield f"docs/guide/operations.md: {step}", number, needed.get(step)
 
 
-def listed_edits():
-    """The edits that docs/proof/edits.md lists, by section and name, each with the functions of its row."""
-    for section in re.split(r"^## ", EDITS.read_text(), flags=re.MULTILINE)[1:]:
-        crate = section.partition("\n")[0].strip("`")
-        for row in rows_in(section):
-            if "Edit" in row:
-                yield (crate, backquoted(row["Edit"])[0]), backquoted(row["Function"])
-
-
-def fault_of_rows(path, rows):
-    """Why the functions of an edit's rows are wrong. Those of a row are the ones that it changes, after the public one that calls them if they are private."""
-    crate, lists = path.parent.parent, [[function.split("::")[-1] for function in functions] for functions in rows]
-    places = ((file, (crate / file).read_text().partition(old)[0]) for file, old, _ in replacements(path))
-    changed, named = {function_at(*place).rpartition("::")[2] for place in places}, {function for functions in lists for function in functions}
-    if not {function for functions in lists for function in functions[1:] or functions} <= changed <= named:
-        return f"{' '.join(sorted(named))}, it changes {' '.join(sorted(changed))}"
-    code = "\n".join(source.read_text() for source in crate.glob("src/*.rt"))
-    return next((f"{public} is no function of the crate" for public, *_ in lists if not re.search(rf"\bfn {public}\b", code)), None)
-
-
-def check_edits():
-    """Each edit has its rows: the crates in the order of crates.txt, the edits of each by name."""
-    edits, rows = {(path.parent.parent.name, path.stem): path for path in TOP.glob("crates/*/must-fail/*.edit")}, list(listed_edits())
-    for edit in sorted({*edits, *(edit for edit, _ in rows)}):
-        functions = [named for listed, named in rows if listed == edit]
-        if edit not in edits or not functions or (len(functions) > 1 and edit[1] != MISTAKES):
-            fault = f"{len(functions)} rows" if edit in edits else "no such edit"
-        else:
-            fault = fault_of_rows(edits[edit], functions)
-        yield f"docs/proof/edits.md: {', '.join(edit)}", None, fault
-    crates = list(libraries())
-    order = sorted(edits, key=lambda edit: (crates.index(edit[0]), edit[1]))
-    yield "docs/proof/edits.md: the order of crates.txt and of names", order, [*dict.fromkeys(edit for edit, _ in rows)]
-
-
 def check_crates():
     text = (TOP / "crates.txt").read_text()
     groups, page = draw_graphs.sections(text), (TOP / "docs/dev/architecture.md").read_text()
@@ -193,16 +145,14 @@ def check_crates():
 
 
 def check_commons_pool():
-    """Each test of Commons Pool 2 that fails has the same difference on both pages, which is a row or a part of what is left out."""
+    """Each test of Commons Pool 2 that fails has a difference, which is a row of the page or a part of what is left out."""
     page = TOP / "docs/guide/differences.md"
     rows = list(tables(page))
     differences = {row["What"] for row in rows if "The library" in row}
     left_out = page.read_text().partition("## What is left out")[2]
-    shown = [{row["Test"].strip("`"): row["Difference"] for row in found if "Difference" in row} for found in (rows, tables(COMMONS_POOL_TESTS))]
-    for test in sorted({*shown[0], *shown[1]}):
-        one, other = (tests.get(test) for tests in shown)
-        yield f"docs/guide/differences.md: {test}: as in docs/guide/commons-pool-tests.md", other, one
-        yield f"docs/guide/differences.md: {test}: there is a difference {one}", True, one in differences or f"{one}" in left_out
+    for row in rows:
+        if "Difference" in row:
+            yield f"docs/guide/differences.md: {row['Test']}: there is a difference {row['Difference']}", True, row["Difference"] in differences or row["Difference"] in left_out
 
 
 def ratios(page):
@@ -247,7 +197,7 @@ def check_decisions():
 
 
 CHECKS = (
-    *(check_settings, check_answers, check_cases, check_trials, check_room, check_edits, check_crates, check_life),
+    *(check_settings, check_answers, check_cases, check_room, check_crates, check_life),
     *(check_commons_pool, check_ratios, check_platforms, check_decisions),
 )
 

@@ -43,7 +43,7 @@ MISTAKES = (
     Mistake("a count is off by one", "Sections", "report != Core.REPORT_SUCCEEDED ? 1 : 0;", "report != Core.REPORT_SUCCEEDED ? 2 : 0;"),
     Mistake("a callback is left out", "Work", "        factory.passivateObject(call.member.pooled);\n", ""),
     Mistake("a mode is not passed on", "Work", "factory.destroyObject(member.pooled, mode);", "factory.destroyObject(member.pooled);"),
-    Mistake("another exception", "Ends", '"Pool exhausted"', '"Timeout waiting for idle object"'),
+    Mistake("another exception", "Shortage", '"Pool exhausted: ', '"Timeout waiting for idle object: '),
     Mistake("another minimum", "CoreSettings", "Math.max(0, config.getMinIdle())", "Math.max(1, config.getMinIdle())"),
     Mistake("one limit for another", "CoreSettings", "config.getSoftMinEvictableIdleDuration()", "config.getMinEvictableIdleDuration()"),
     Mistake("abandoned objects stay lent", "ZuphinkaPool", "if (settings.reclaimsOnMaintenance) {", "if (work == null) {"),

@@ -1,10 +1,12 @@
-"""Makes the files of tests/cases anew, in the format that tests/cases/README.md explains.
+"""Makes the expected output of the files of tests/cases anew, in the format that tests/cases/README.md explains, and cases from seeds.
 
     make_cases.py
 
-The files of SEEDED are made from their seeds. In the others settings, scripts and changes stay, and so do journals that no script makes. Answers,
-errors, verdicts and statistics are made anew, by tests/pool_model.py and tests/case_model.py. Segments that are legal together are made anew too: the
-journal of their script is cut at the same positions. Prints the name of each file that was changed.
+Settings, scripts and changes stay, and so do journals that no script makes. Answers, errors, verdicts and statistics are made anew, by
+tests/pool_model.py and tests/case_model.py. Segments that are legal together are made anew too: the journal of their script is cut at the same
+positions. Prints the name of each file that was changed.
+
+Whatever plays all of tests/cases plays the cases of `seeded` too, which are made each time.
 
 So if a rule has changed, change the model, run this, and read the difference.
 """
@@ -27,6 +29,12 @@ VALUES = {
 OF_ABANDONED = {
     "removeAbandonedOnBorrow": ("true",), "removeAbandonedOnMaintenance": ("true",), "removeAbandonedTimeoutMillis": ("0", "20", "60"),
 }
+# What stands after a key of settings: values of all types, within and beyond all ranges.
+ANY_VALUES = (
+    "true", "false", "0", "1", "3", "8", "-1", "-2", "-0", "+3", "03", "0x10", "1_000", "1.5", "inf", "2147483647", "2147483648", "-2147483648",
+    "-2147483649", "4294967296", "4294967297", "9007199254740992", "9007199254740993", '"8"', "'a'", "[]", "[1, 2]", "{}", "1979-05-27", "12:30:00", "",
+    "{ removeAbandonedOnBorrow = true }", "{ removeAbandonedTimeoutMillis = -1 }", "1 # one", "8\r",
+)
 # Lengths of scripts, in lines.
 SHORTEST, LONGEST = 30, 80
 
@@ -128,11 +136,26 @@ def cut_life(name, seed):
     return remade(Case(name, settings=settings, segments=[(text, b"") for text in with_fault(segments, chance)], verdict=b""))
 
 
-# The files that are made from seeds: what makes a case, the first seed, the number of cases, each with the next seed, and the heading.
-SEEDED = {
-    "seeded/lives.toml": (life, 800, 40, "# Lives of objects, by chance. Most inputs have something to do. A journal is checked with a wrong line."),
-    "seeded/segments.toml": (cut_life, 2_300, 30, "# Lives of objects, cut by chance. Some segments are damaged, lost, repeated or exchanged."),
-}
+def any_settings(name, seed):
+    """A settings file of up to five keys, most of them of settings, with any values."""
+    chance, keys, lines = Chance(seed), [*VALUES, *OF_ABANDONED, "testOnBorrow", "testOnCreate", "testOnReturn", "abandoned", "maxTotl", '""'], []
+    for _ in range(1 + chance.below(5)):
+        lines.append(f"{chance.one_of(keys)} = {chance.one_of(ANY_VALUES)}\n")
+        if chance.below(6) == 0:
+            lines.append("[abandoned]\n")
+    return remade(Case(name, settings="".join(lines).encode(), answer=b""))
+
+
+# The cases from seeds: what makes a case, the first seed, and the number of cases, each with the next seed.
+SEEDED = {"lives": (life, 800, 280), "segments": (cut_life, 2_300, 120), "settings": (any_settings, 4_000, 150)}
+
+
+def seeded():
+    """The cases from seeds: lives of objects, in which most inputs have something to do, and journals of which are checked with a wrong line; such lives,
+    cut, some of whose segments are damaged, lost, repeated or exchanged; and settings files with any values."""
+    for kind, (make, seed, number) in SEEDED.items():
+        for index in range(number):
+            yield make(f"seeded/{kind}/{index}", seed + index)
 
 
 # All cases anew.
@@ -183,12 +206,9 @@ def remade(case):
 
 def files_made():
     """Each file of cases, and its text as it is made anew."""
-    for name, (make, seed, number, heading) in SEEDED.items():
-        yield CASES / name, written([heading], [make(str(index), seed + index) for index in range(number)])
     for path in files_of([CASES]):
-        if path.relative_to(CASES).as_posix() not in SEEDED:
-            heading, cases = read_file(path)
-            yield path, written(heading, map(remade, cases))
+        heading, cases = read_file(path)
+        yield path, written(heading, map(remade, cases))
 
 
 def main():
@@ -197,8 +217,7 @@ def main():
     except CaseError as error:
         sys.exit(f"make_cases.py: {error}")
     for path, text in made:
-        if not path.exists() or path.read_text() != text:
-            path.parent.mkdir(exist_ok=True)
+        if path.read_text() != text:
             path.write_text(text)
             print(path.relative_to(TOP))
 

@@ -32,7 +32,7 @@ enum {
   LONG = 60000, /* milliseconds, after which a wait has failed */
   LONGEST_TEXT = 1 << 16,
   MANY_LOANS = 20000,
-  LAST_ERROR = ZUPHINKA_POOL_ERROR_BUFFER_TOO_SMALL,
+  LAST_ERROR = ZUPHINKA_POOL_ERROR_STORING,
   SLACK = 1 << 20,
 };
 
@@ -104,6 +104,9 @@ struct maker {
   bool has_chance, is_plain, has_no_clock; /* calls fail at random; some callbacks are null; the clock is null */
   bool is_fair;                            /* as in the host */
   uint32_t max_overtakes;                  /* the same */
+  uint64_t max_lifetime_ms, leak_after_ms; /* the same */
+  atomic_uint_fast64_t leaks;              /* loans that were reported */
+  struct { uint64_t id, since; uint32_t borrower; } leak; /* the last one, in a test of one thread */
   uint64_t seed;
   atomic_uint_fast64_t chances;
 };
@@ -193,8 +196,20 @@ static uint64_t tell_time(void *context) {
   return atomic_fetch_add(&maker->now, atomic_load(&maker->ticks));
 }
 
+static void note_leak(void *context, uint64_t id, uint32_t borrower, uint64_t since) {
+  struct maker *maker = context;
+  struct zuphinka_tally counts;
+  if (maker->pool) zuphinka_pool_counts(maker->pool, &counts); /* which hangs if the pool holds its lock */
+  atomic_fetch_add(&maker->leaks, 1);
+  if (maker->has_chance) return;
+  maker->leak.id = id;
+  maker->leak.borrower = borrower;
+  maker->leak.since = since;
+}
+
 static struct zuphinka_pool_host host_of(struct maker *maker) {
-  return (struct zuphinka_pool_host){.context = maker,
+  return (struct zuphinka_pool_host){.size = sizeof(struct zuphinka_pool_host),
+                                     .context = maker,
                                      .make = make_thing,
                                      .activate = activate_thing,
                                      .validate = validate_thing,
@@ -202,7 +217,10 @@ static struct zuphinka_pool_host host_of(struct maker *maker) {
                                      .destroy = destroy_thing,
                                      .now = tell_time,
                                      .max_overtakes = maker->max_overtakes,
-                                     .is_fair = maker->is_fair};
+                                     .is_fair = maker->is_fair,
+                                     .max_lifetime_ms = maker->max_lifetime_ms,
+                                     .leak_after_ms = maker->leak_after_ms,
+                                     .leak = note_leak};
 }
 
 static struct maker maker = {.most = 8, .lock = PTHREAD_MUTEX_INITIALIZER};
@@ -458,6 +476,26 @@ static void test_waits_at_the_end_of_the_clock(void) {
   end_pool(pool);
 }
 
+/* A wait lasts as long as the settings say, those before a change or after it, also if the clock of the host goes back or stands still. */
+static void test_waits_end_without_the_clock(void) {
+  static const char limited[] = "maxTotal = 1\nmaxWaitMillis = 60\n", unlimited[] = "maxTotal = 1\n";
+  static char text[LONGEST_TEXT];
+  for (int row = 0; row < 4; row++) {
+    bool is_back = row % 2, is_changed = row / 2;
+    struct zuphinka_pool *pool = open_kept(is_changed ? unlimited : limited, 1);
+    atomic_store(&maker.now, 5000000);
+    struct zuphinka_pool_loan loan = lend(pool), other;
+    if (is_changed) check_error(zuphinka_pool_reconfigure(pool, limited, strlen(limited), append_text, text, NULL), ZUPHINKA_POOL_ERROR_NONE);
+    if (is_back) atomic_store(&maker.now, 1000000);
+    int64_t began = milliseconds_now();
+    check_error(zuphinka_pool_get_timed(pool, LONG, &other), ZUPHINKA_POOL_ERROR_TIMED_OUT);
+    int64_t passed = milliseconds_now() - began;
+    check(passed >= 60 && passed < LONG);
+    give_back(pool, &loan);
+    end_pool(pool);
+  }
+}
+
 /* The caller ends a wait, which makes no entry then. */
 static void test_waits_end_by_the_caller(void) {
   struct zuphinka_pool_loan loan = open_lent("maxTotal = 1\nmaxWaitMillis = 60000\n"), other;
@@ -698,6 +736,211 @@ static void test_evictions(void) {
   end_pool(pool);
 }
 
+/* Without a callback that tests objects each one passes, also in an eviction run. */
+static void test_evictions_without_a_test(void) {
+  const char *settings = "testOnCreate = true\ntestOnBorrow = true\ntestOnReturn = true\ntestWhileIdle = true\nminIdle = 1\n";
+  struct zuphinka_pool_host host = host_of(&maker);
+  struct zuphinka_pool_eviction done;
+  struct zuphinka_pool_maintenance maintained;
+  host.validate = NULL;
+  for (int is_plain = 0; is_plain < 2; is_plain++) {
+    if (is_plain) host.activate = host.passivate = NULL;
+    check_error(zuphinka_pool_open(&maker.pool, settings, strlen(settings), &host, ZUPHINKA_POOL_JOURNAL_MEMORY), ZUPHINKA_POOL_ERROR_NONE);
+    check_error(zuphinka_pool_add(maker.pool), ZUPHINKA_POOL_ERROR_NONE);
+    calls();
+    check_error(zuphinka_pool_evict(maker.pool, &done), ZUPHINKA_POOL_ERROR_NONE);
+    check(done.examined == 1 && done.destroyed == 0);
+    check_error(zuphinka_pool_maintain(maker.pool, &maintained), ZUPHINKA_POOL_ERROR_NONE);
+    check(maintained.eviction.examined == 1 && maintained.eviction.destroyed == 0 && maintained.filled == 0);
+    check_text(calls(), is_plain ? "" : "apap");
+    end_pool(maker.pool);
+  }
+}
+
+/* Opens a pool whose objects get so old, with an idle object that is made at time 0, and perhaps without hooks. */
+static struct zuphinka_pool *open_aging(const char *settings, uint64_t lifetime, bool is_plain) {
+  struct zuphinka_pool_host host = host_of(&maker);
+  host.max_lifetime_ms = lifetime;
+  if (is_plain) host.activate = host.validate = host.passivate = NULL;
+  atomic_store(&maker.now, 0);
+  check_error(zuphinka_pool_open(&maker.pool, settings, strlen(settings), &host, ZUPHINKA_POOL_JOURNAL_MEMORY), ZUPHINKA_POOL_ERROR_NONE);
+  check_error(zuphinka_pool_add(maker.pool), ZUPHINKA_POOL_ERROR_NONE);
+  entries(maker.pool);
+  calls();
+  return maker.pool;
+}
+
+/* An object that is too old is not lent, but destroyed without another call, and the next one is tried. */
+static void test_too_old_to_be_lent(void) {
+  for (int is_plain = 0; is_plain < 2; is_plain++) {
+    struct zuphinka_pool *pool = open_aging("testOnBorrow = true\ntestOnReturn = true\n", 100, is_plain);
+    struct zuphinka_pool_loan loan;
+    atomic_store(&maker.now, 99);
+    check_error(zuphinka_pool_get(pool, &loan), ZUPHINKA_POOL_ERROR_NONE);
+    check(loan.id == 0);
+    check_error(zuphinka_pool_give_back(pool, &loan), ZUPHINKA_POOL_ERROR_NONE);
+    check_text(calls(), is_plain ? "" : "avvp");
+    entries(pool);
+    atomic_store(&maker.now, 100);
+    check_error(zuphinka_pool_get(pool, &loan), ZUPHINKA_POOL_ERROR_NONE);
+    check(loan.id == 1);
+    check_text(calls(), is_plain ? "dm" : "dmav");
+    check_text(entries(pool), "0 100 borrow 100 = take 0\n0 100 ready 0 activatefail = destroy\n0 100 destroyed 0 = freed\n"
+                              "0 100 borrow 100 = make 1\n0 100 ready 1 good = lent\n");
+    check_error(zuphinka_pool_give_back(pool, &loan), ZUPHINKA_POOL_ERROR_NONE);
+    end_pool(pool);
+    calls();
+  }
+}
+
+/* An object that is too old is destroyed at its return, and not before. */
+static void test_too_old_to_return(void) {
+  for (int row = 0; row < 4; row++) {
+    bool is_plain = row % 2, tests = row / 2;
+    struct zuphinka_pool *pool = open_aging(tests ? "testOnReturn = true\n" : "", 100, is_plain);
+    struct zuphinka_pool_loan loan;
+    check_error(zuphinka_pool_get(pool, &loan), ZUPHINKA_POOL_ERROR_NONE);
+    atomic_store(&maker.now, 1000);
+    check_error(zuphinka_pool_touch(pool, &loan), ZUPHINKA_POOL_ERROR_NONE);
+    calls();
+    check_error(zuphinka_pool_give_back(pool, &loan), ZUPHINKA_POOL_ERROR_NONE);
+    check_text(calls(), "d");
+    check(counts_of(pool).idle == 0 && counts_of(pool).destroyed == 1 && atomic_load(&maker.alive) == 0);
+    check(strstr(entries(pool), tests && !is_plain ? " park 0 testfail = destroy\n" : " park 0 passivatefail = destroy\n"));
+    end_pool(pool);
+    calls();
+  }
+}
+
+/* An eviction run destroys those that are too old, if it tests. */
+static void test_too_old_to_be_kept(void) {
+  static const struct {
+    const char *settings;
+    uint64_t destroyed;
+    const char *calls, *plain_calls;
+  } rows[] = {{"testWhileIdle = true\nlifo = false\n", 1, "davp", "d"}, {"lifo = false\n", 0, "", ""}};
+  for (int row = 0; row < 2; row++) {
+    for (int is_plain = 0; is_plain < 2; is_plain++) {
+      struct zuphinka_pool *pool = open_aging(rows[row].settings, 100, is_plain);
+      struct zuphinka_pool_eviction done;
+      struct zuphinka_pool_loan loan;
+      atomic_store(&maker.now, 50);
+      check_error(zuphinka_pool_add(pool), ZUPHINKA_POOL_ERROR_NONE);
+      calls();
+      atomic_store(&maker.now, 149);
+      check_error(zuphinka_pool_evict(pool, &done), ZUPHINKA_POOL_ERROR_NONE);
+      check(done.examined == 2 && done.destroyed == rows[row].destroyed);
+      check_text(calls(), is_plain ? rows[row].plain_calls : rows[row].calls);
+      check_error(zuphinka_pool_get(pool, &loan), ZUPHINKA_POOL_ERROR_NONE);
+      check(loan.id == 1);
+      check_error(zuphinka_pool_give_back(pool, &loan), ZUPHINKA_POOL_ERROR_NONE);
+      end_pool(pool);
+      calls();
+    }
+  }
+}
+
+/* A new object is not too old, however long it takes to be made, and none is if the clock goes back. */
+static void test_new_objects_are_not_old(void) {
+  struct zuphinka_pool *pool = open_aging("testOnCreate = true\ntestOnBorrow = true\nminIdle = 1\nlifo = false\n", 10, false);
+  check_error(zuphinka_pool_clear(pool, NULL), ZUPHINKA_POOL_ERROR_NONE);
+  atomic_store(&maker.ticks, 20);
+  struct zuphinka_pool_loan loan = lend(pool);
+  check(loan.id == 1);
+  check_error(zuphinka_pool_fill(pool, NULL), ZUPHINKA_POOL_ERROR_NONE);
+  check(counts_of(pool).created == 3 && counts_of(pool).destroyed == 1);
+  atomic_store(&maker.ticks, 0);
+  atomic_store(&maker.now, 5);
+  give_back(pool, &loan);
+  loan = lend(pool);
+  check(loan.id == 2 && counts_of(pool).idle == 1);
+  give_back(pool, &loan);
+  end_pool(pool);
+}
+
+/* ---- loans that last too long */
+
+/* Maintains a pool. Returns how many loans that reports. */
+static uint64_t leaks_found(struct zuphinka_pool *pool, uint64_t at, enum zuphinka_pool_error wanted) {
+  uint64_t before = atomic_load(&maker.leaks);
+  atomic_store(&maker.now, at);
+  check_error(zuphinka_pool_maintain(pool, NULL), wanted);
+  return atomic_load(&maker.leaks) - before;
+}
+
+static void *borrow_one(void *argument) {
+  struct zuphinka_pool_loan *loan = argument;
+  check_error(zuphinka_pool_get(maker.pool, loan), ZUPHINKA_POOL_ERROR_NONE);
+  return NULL;
+}
+
+/* Each loan that lasts too long is reported once, by the first maintenance after that, also of a closed pool. */
+static void test_leaks(void) {
+  maker.leak_after_ms = 100;
+  struct zuphinka_pool *pool = open_kept("", 8);
+  struct zuphinka_pool_loan loans[2];
+  pthread_t thread;
+  atomic_store(&maker.now, 30);
+  loans[0] = lend(pool);
+  uint32_t here = zuphinka_pool_caller();
+  atomic_store(&maker.now, 50);
+  check(pthread_create(&thread, NULL, borrow_one, &loans[1]) == 0 && pthread_join(thread, NULL) == 0);
+  check(leaks_found(pool, 129, ZUPHINKA_POOL_ERROR_NONE) == 0);
+  check_error(zuphinka_pool_touch(pool, &loans[0]), ZUPHINKA_POOL_ERROR_NONE);
+  check(leaks_found(pool, 130, ZUPHINKA_POOL_ERROR_NONE) == 1);
+  check(maker.leak.id == 0 && maker.leak.since == 30 && maker.leak.borrower == here);
+  check(leaks_found(pool, 149, ZUPHINKA_POOL_ERROR_NONE) == 0);
+  check(leaks_found(pool, 40, ZUPHINKA_POOL_ERROR_NONE) == 0); /* the clock goes back */
+  zuphinka_pool_close(pool);
+  check(leaks_found(pool, 1000, ZUPHINKA_POOL_ERROR_CLOSED) == 1);
+  check(maker.leak.id == 1 && maker.leak.since == 50 && maker.leak.borrower != here);
+  check(leaks_found(pool, 2000, ZUPHINKA_POOL_ERROR_CLOSED) == 0);
+  give_back(pool, &loans[0]);
+  check_error(zuphinka_pool_give_back(pool, &loans[1]), ZUPHINKA_POOL_ERROR_NONE);
+  end_pool(pool);
+}
+
+/* The next loan of an object is another one; a loan whose object was reclaimed lasts until its holder ends it. */
+static void test_leaks_of_one_object(void) {
+  maker.leak_after_ms = 100;
+  struct zuphinka_pool *pool = open_kept(
+      "maxTotal = 1\n[abandoned]\nremoveAbandonedOnMaintenance = true\nremoveAbandonedTimeoutMillis = 250\n", -1);
+  struct zuphinka_pool_loan loan = lend(pool);
+  check(leaks_found(pool, 100, ZUPHINKA_POOL_ERROR_NONE) == 1);
+  give_back(pool, &loan);
+  check(leaks_found(pool, 300, ZUPHINKA_POOL_ERROR_NONE) == 0);
+  loan = lend(pool);
+  check(loan.id == 0 && leaks_found(pool, 399, ZUPHINKA_POOL_ERROR_NONE) == 0);
+  check(leaks_found(pool, 400, ZUPHINKA_POOL_ERROR_NONE) == 1 && maker.leak.since == 300);
+  give_back(pool, &loan);
+  loan = lend(pool);
+  atomic_store(&maker.now, 650);
+  check_error(zuphinka_pool_reclaim(pool, NULL), ZUPHINKA_POOL_ERROR_NONE);
+  check(counts_of(pool).reclaimed == 1 && leaks_found(pool, 650, ZUPHINKA_POOL_ERROR_NONE) == 1);
+  let_go(&loan);
+  check_error(zuphinka_pool_give_back(pool, &loan), ZUPHINKA_POOL_ERROR_GONE);
+  check(leaks_found(pool, 5000, ZUPHINKA_POOL_ERROR_NONE) == 0);
+  end_pool(pool);
+}
+
+enum { MANY_LEAKS = 1000 };
+
+/* All are found in one maintenance, however many there are; none without a time. */
+static void test_many_leaks(void) {
+  static struct zuphinka_pool_loan loans[MANY_LEAKS];
+  for (int is_on = 0; is_on < 2; is_on++) {
+    maker.leak_after_ms = is_on ? 1 : 0;
+    struct zuphinka_pool *pool = open_kept("maxTotal = -1\nmaxIdle = -1\njournalLimit = 100000\n", -1);
+    atomic_store(&maker.now, 0);
+    for (int n = 0; n < MANY_LEAKS; n++) loans[n] = lend(pool);
+    for (int n = 0; n < MANY_LEAKS; n += 2) give_back(pool, &loans[n]);
+    check(leaks_found(pool, 1, ZUPHINKA_POOL_ERROR_NONE) == (is_on ? MANY_LEAKS / 2 : 0));
+    check(leaks_found(pool, 2, ZUPHINKA_POOL_ERROR_NONE) == 0);
+    for (int n = 1; n < MANY_LEAKS; n += 2) give_back(pool, &loans[n]);
+    end_pool(pool);
+  }
+}
+
 static const char *const reclaiming =
     "maxTotal = 2\nminIdle = 1\n[abandoned]\nremoveAbandonedOnBorrow = true\nremoveAbandonedOnMaintenance = true\n"
     "removeAbandonedTimeoutMillis = 100\n";
@@ -764,6 +1007,24 @@ static void test_closed(void) {
   end_pool(pool);
 }
 
+/* A host is refused that has no size, or that of no struct which the library knows; and of such a one nothing but the size is read. */
+static void check_sizes(void) {
+  const size_t sizes[] = {0, 1, sizeof(size_t), sizeof(struct zuphinka_pool_host) - 1, sizeof(struct zuphinka_pool_host) + 8, SIZE_MAX};
+  struct zuphinka_pool *pool = NULL;
+  struct zuphinka_pool_host host = host_of(&maker);
+  for (size_t n = 0; n < sizeof sizes / sizeof *sizes; n++) {
+    host.size = sizes[n];
+    check_error(zuphinka_pool_open(&pool, "", 0, &host, ZUPHINKA_POOL_JOURNAL_OFF), ZUPHINKA_POOL_ERROR_UNKNOWN_SIZE);
+    size_t *alone = malloc(sizeof *alone);
+    check(alone != NULL);
+    *alone = sizes[n];
+    enum zuphinka_pool_error error = zuphinka_pool_open(&pool, "", 0, (const struct zuphinka_pool_host *)(const void *)alone, ZUPHINKA_POOL_JOURNAL_OFF);
+    free(alone);
+    check_error(error, ZUPHINKA_POOL_ERROR_UNKNOWN_SIZE);
+  }
+  check(!pool);
+}
+
 static void test_opens(void) {
   static const struct {
     const char *settings;
@@ -785,8 +1046,13 @@ static void test_opens(void) {
   check_error(zuphinka_pool_open(&pool, "", 0, &host, (enum zuphinka_pool_journal)3), ZUPHINKA_POOL_ERROR_UNKNOWN_JOURNAL);
   check_error(zuphinka_pool_open(&pool, "", 0, &host, (enum zuphinka_pool_journal)7), ZUPHINKA_POOL_ERROR_UNKNOWN_JOURNAL);
   check_error(zuphinka_pool_open(&pool, "", 0, &host, ZUPHINKA_POOL_JOURNAL_SEGMENTS), ZUPHINKA_POOL_ERROR_MISSING_CALLBACK);
+  host.leak = NULL;
+  host.leak_after_ms = 1;
+  check_error(zuphinka_pool_open(&pool, "", 0, &host, ZUPHINKA_POOL_JOURNAL_OFF), ZUPHINKA_POOL_ERROR_MISSING_CALLBACK);
+  host = host_of(&maker);
   host.destroy = NULL;
   check_error(zuphinka_pool_open(&pool, "", 0, &host, ZUPHINKA_POOL_JOURNAL_OFF), ZUPHINKA_POOL_ERROR_MISSING_CALLBACK);
+  check_sizes();
   check(!pool && zuphinka_pool_end(NULL) == ZUPHINKA_POOL_ERROR_NONE);
 }
 
@@ -1290,7 +1556,7 @@ static void test_failing_store_at_a_change(void) {
 static bool store_and_reconfigure(void *context, uint64_t first, const char *text, size_t size) {
   struct maker *made = context;
   (void)first, (void)text, (void)size;
-  check_error(zuphinka_pool_reconfigure(made->pool, "", 0, store_and_reconfigure, made, NULL), ZUPHINKA_POOL_ERROR_IN_USE);
+  check_error(zuphinka_pool_reconfigure(made->pool, "", 0, store_and_reconfigure, made, NULL), ZUPHINKA_POOL_ERROR_STORING);
   return true;
 }
 
@@ -1568,6 +1834,85 @@ static void test_one_gives_up(void) {
   give_back(pool, &loan);
   join(&waiter, 1, ZUPHINKA_POOL_ERROR_NONE);
   check_error(zuphinka_pool_give_back(pool, &waiter.loan), ZUPHINKA_POOL_ERROR_NONE);
+  end_pool(pool);
+}
+
+/* ---- threads that end one loan */
+
+/* A call for the loan of another thread. */
+struct ender {
+  pthread_t thread;
+  struct zuphinka_pool *pool;
+  struct zuphinka_pool_loan *loan;
+  bool touches, invalidates;
+  enum zuphinka_pool_error error;
+};
+
+static void *end_one(void *argument) {
+  struct ender *ender = argument;
+  atomic_store(&maker.held, zuphinka_pool_caller() + 1);
+  ender->error = zuphinka_pool_give_back(ender->pool, ender->loan);
+  return NULL;
+}
+
+/* A thread ends the loan that is there once it has the lock: not one that was there before, whose object has another holder by then. */
+static void test_loan_that_changes(void) {
+  struct zuphinka_pool *pool = open_kept("maxTotal = 2\n", 2);
+  struct zuphinka_pool_loan loan = lend(pool), other;
+  struct ender ender = {.pool = pool, .loan = &loan};
+  int looks = atomic_load(&maker.looks);
+  check(pthread_create(&ender.thread, NULL, end_one, &ender) == 0);
+  while (atomic_load(&maker.looks) == looks) sleep_for(1); /* its call has begun */
+  give_back(pool, &loan);
+  other = lend(pool);
+  loan = lend(pool);
+  check(other.id == 0 && loan.id == 1);
+  let_go(&loan);
+  atomic_store(&maker.held, 0);
+  check(pthread_join(ender.thread, NULL) == 0);
+  check_error(ender.error, ZUPHINKA_POOL_ERROR_NONE);
+  check(loan.id == ZUPHINKA_POOL_NO_LOAN && counts_of(pool).lent == 1);
+  check_error(zuphinka_pool_touch(pool, &other), ZUPHINKA_POOL_ERROR_NONE);
+  give_back(pool, &other);
+  check(counts_of(pool).lent == 0 && counts_of(pool).idle == 2);
+  end_pool(pool);
+}
+
+static pthread_barrier_t together;
+
+static void *end_together(void *argument) {
+  struct ender *ender = argument;
+  pthread_barrier_wait(&together);
+  if (ender->touches) ender->error = zuphinka_pool_touch(ender->pool, ender->loan);
+  else if (ender->invalidates) ender->error = zuphinka_pool_invalidate(ender->pool, ender->loan);
+  else ender->error = zuphinka_pool_give_back(ender->pool, ender->loan);
+  return NULL;
+}
+
+enum { ENDERS = 4, ENDINGS = 100 };
+
+/* Of threads that end one loan, one does, and for the others it has ended, also for one that touches it later. */
+static void test_one_loan_in_some_threads(void) {
+  struct zuphinka_pool *pool = open_kept("maxTotal = 1\n", 1);
+  check(pthread_barrier_init(&together, NULL, ENDERS) == 0);
+  for (int round = 0; round < ENDINGS; round++) {
+    struct ender enders[ENDERS];
+    struct zuphinka_pool_loan loan = lend(pool);
+    int ended = 0;
+    let_go(&loan);
+    for (int n = 0; n < ENDERS; n++) {
+      enders[n] = (struct ender){.pool = pool, .loan = &loan, .touches = n == 0, .invalidates = n == 1};
+      check(pthread_create(&enders[n].thread, NULL, end_together, &enders[n]) == 0);
+    }
+    for (int n = 0; n < ENDERS; n++) {
+      check(pthread_join(enders[n].thread, NULL) == 0);
+      if (enders[n].error) check_error(enders[n].error, ZUPHINKA_POOL_ERROR_NOT_LENT);
+      else if (n > 0) ended++;
+    }
+    struct zuphinka_tally counts = counts_of(pool);
+    check(ended == 1 && loan.id == ZUPHINKA_POOL_NO_LOAN && counts.lent == 0 && counts.idle + counts.destroyed == counts.created);
+  }
+  pthread_barrier_destroy(&together);
   end_pool(pool);
 }
 
@@ -1877,15 +2222,20 @@ static enum zuphinka_pool_error fill_journal(struct zuphinka_pool *pool) {
   }
 }
 
-/* A borrow that finds the journal full waits for a store in another thread no longer than for an object. */
+/* A borrow that finds the journal full waits for a store in another thread no longer than for an object, also if the clock of the host goes back. */
 static void test_waits_for_a_store_end(void) {
-  static const char *const settings[] = {
-      "journalLimit = 200\nmaxWaitMillis = 40\n",
-      "journalLimit = 200\nmaxWaitMillis = 40\n[abandoned]\nremoveAbandonedOnBorrow = true\n",
+  static const struct {
+    const char *settings;
+    bool has_no_clock;
+  } rows[] = {
+      {"journalLimit = 200\nmaxWaitMillis = 40\n", true},
+      {"journalLimit = 200\nmaxWaitMillis = 40\n[abandoned]\nremoveAbandonedOnBorrow = true\n", true},
+      {"journalLimit = 200\nmaxWaitMillis = 40\n", false},
   };
-  for (size_t n = 0; n < sizeof settings / sizeof *settings; n++) {
-    maker.has_no_clock = true;
-    struct zuphinka_pool *pool = open_stored(&maker, settings[n], NULL, ZUPHINKA_POOL_JOURNAL_SEGMENTS);
+  for (size_t n = 0; n < sizeof rows / sizeof *rows; n++) {
+    maker.has_no_clock = rows[n].has_no_clock;
+    atomic_store(&maker.now, 5000000);
+    struct zuphinka_pool *pool = open_stored(&maker, rows[n].settings, NULL, ZUPHINKA_POOL_JOURNAL_SEGMENTS);
     struct waiter waiter = {.pool = pool};
     struct zuphinka_pool_loan loan;
     atomic_store(&maker.sink.called, 0);
@@ -1893,16 +2243,70 @@ static void test_waits_for_a_store_end(void) {
     check(pthread_create(&waiter.thread, NULL, lend_until_held, &waiter) == 0);
     while (atomic_load(&maker.sink.called) == 0) sleep_for(1);
     check_error(fill_journal(pool), ZUPHINKA_POOL_ERROR_JOURNAL_FULL);
+    atomic_store(&maker.now, 1000000);
     int64_t began = milliseconds_now();
     check_error(zuphinka_pool_get_timed(pool, 20, &loan), ZUPHINKA_POOL_ERROR_JOURNAL_FULL);
-    check_error(zuphinka_pool_get(pool, &loan), ZUPHINKA_POOL_ERROR_JOURNAL_FULL);
-    check(milliseconds_now() - began >= 60);
+    check_error(zuphinka_pool_get_timed(pool, LONG, &loan), ZUPHINKA_POOL_ERROR_JOURNAL_FULL);
+    int64_t passed = milliseconds_now() - began;
+    check(passed >= 60 && passed < LONG);
     atomic_store(&maker.sink.is_held, false);
     join(&waiter, 1, ZUPHINKA_POOL_ERROR_NONE);
     loan = lend(pool);
     give_back(pool, &loan);
     end_pool(pool);
   }
+}
+
+static atomic_bool is_awaited; /* a call that makes an object, which then waits for a store in another thread */
+
+/* Makes a thing, perhaps while another thread stores a segment, which it lets go. */
+static bool make_beside_a_store(void *context, uint64_t id, void **object) {
+  struct maker *made = context;
+  if (atomic_load(&is_awaited)) {
+    int64_t end = milliseconds_now() + LONG;
+    atomic_store(&is_awaited, false);
+    while (atomic_load(&made->sink.called) == 0 && milliseconds_now() < end) sleep_for(1);
+    check(atomic_load(&made->sink.called) == 1);
+    atomic_store(&made->sink.is_held, false);
+  }
+  return make_thing(context, id, object);
+}
+
+static void *add_one(void *argument) {
+  struct waiter *waiter = argument;
+  waiter->error = zuphinka_pool_add(waiter->pool);
+  return NULL;
+}
+
+/* Plays a call that has cut the journal, and ends while another thread stores the segment. */
+static void cut_beside_a_store(void) {
+  struct zuphinka_pool_host host = host_of(&maker);
+  const char *settings = "journalLimit = 40\n";
+  struct waiter adding;
+  host.make = make_beside_a_store;
+  host.store = store_segment;
+  atomic_store(&maker.sink.called, 0);
+  check_error(zuphinka_pool_open(&maker.pool, settings, strlen(settings), &host, ZUPHINKA_POOL_JOURNAL_SEGMENTS), ZUPHINKA_POOL_ERROR_NONE);
+  struct zuphinka_pool *pool = maker.pool;
+  struct zuphinka_pool_loan loan = lend(pool);
+  while (counts_of(pool).steps < 34) check_error(zuphinka_pool_touch(pool, &loan), ZUPHINKA_POOL_ERROR_NONE);
+  adding.pool = pool;
+  atomic_store(&maker.sink.is_held, true);
+  atomic_store(&is_awaited, true);
+  check(pthread_create(&adding.thread, NULL, add_one, &adding) == 0);
+  while (atomic_load(&is_awaited)) sleep_for(1); /* it has cut the journal, and left the segment */
+  check(atomic_load(&maker.sink.called) == 0);
+  struct zuphinka_pool_loan other = lend(pool); /* which stores the segment first */
+  join(&adding, 1, ZUPHINKA_POOL_ERROR_NONE);
+  check(atomic_load(&maker.sink.called) > 0);
+  give_back(pool, &loan);
+  give_back(pool, &other);
+  end_pool(pool);
+}
+
+/* A call that has cut the journal leaves its segment, unread, to a thread that stores it already. ThreadSanitizer does not see each such read. */
+static void test_cut_while_another_stores(void) {
+  for (int round = 0; round < 10; round++) cut_beside_a_store();
 }
 
 static atomic_int allowed;      /* calls of `store_when_allowed` that may end */
@@ -2040,7 +2444,7 @@ static bool store_and_borrow(void *context, uint64_t first, const char *text, si
   check_error(fill_journal(made->pool), ZUPHINKA_POOL_ERROR_JOURNAL_FULL);
   while ((error = zuphinka_pool_clear(made->pool, NULL)) == ZUPHINKA_POOL_ERROR_NONE) check(counts_of(made->pool).steps < 2 * 60);
   check_error(error, ZUPHINKA_POOL_ERROR_JOURNAL_FULL);
-  check_error(zuphinka_pool_cut(made->pool, store_and_borrow, made, NULL), ZUPHINKA_POOL_ERROR_IN_USE);
+  check_error(zuphinka_pool_cut(made->pool, store_and_borrow, made, NULL), ZUPHINKA_POOL_ERROR_STORING);
   return true;
 }
 
@@ -2983,6 +3387,8 @@ static void open_table(struct table *table, uint64_t seed, const char *folder) {
              "[abandoned]\nremoveAbandonedOnBorrow = true\nremoveAbandonedOnMaintenance = true\nremoveAbandonedTimeoutMillis = %d\n",
              timeout_of_manner[table->manner]);
   }
+  maker.max_lifetime_ms = seed / MANNERS % 2 ? 500 : 0;
+  maker.leak_after_ms = seed % 2 == 0 ? 50 : 0;
   maker.is_fair = seed % 4 == 1;
   maker.max_overtakes = seed % 4 == 2 ? 1 : 0;
   table->pool = open_stored(&maker, table->settings[0], folder, table->journal);
@@ -3142,6 +3548,7 @@ static const struct {
     TEST(exhausted),
     TEST(waits_end_by_the_settings),
     TEST(waits_at_the_end_of_the_clock),
+    TEST(waits_end_without_the_clock),
     TEST(waits_end_by_the_caller),
     TEST(new_objects_that_fail),
     TEST(second_test_of_a_new_object),
@@ -3155,6 +3562,14 @@ static const struct {
     TEST(most_idle),
     TEST(additions_and_fills),
     TEST(evictions),
+    TEST(evictions_without_a_test),
+    TEST(too_old_to_be_lent),
+    TEST(too_old_to_return),
+    TEST(too_old_to_be_kept),
+    TEST(new_objects_are_not_old),
+    TEST(leaks),
+    TEST(leaks_of_one_object),
+    TEST(many_leaks),
     TEST(maintenance),
     TEST(reclaims_at_a_borrow),
     TEST(clears),
@@ -3190,6 +3605,8 @@ static const struct {
     TEST(woken_for_nothing),
     TEST(waits_by_a_clock_that_goes_back),
     TEST(one_gives_up),
+    TEST(loan_that_changes),
+    TEST(one_loan_in_some_threads),
     TEST(overtakes_are_bounded),
     TEST(no_thread_starves),
     TEST(woken_for_nothing_once),
@@ -3200,6 +3617,7 @@ static const struct {
     TEST(times_out_beside_an_object),
     TEST(failed_object_keeps_the_turn),
     TEST(slow_store),
+    TEST(cut_while_another_stores),
     TEST(waits_for_a_store_end),
     TEST(goes_on_after_a_cut),
     TEST(close_ends_a_wait_for_a_store),

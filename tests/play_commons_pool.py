@@ -1,9 +1,9 @@
-"""Runs the tests of Commons Pool 2, unchanged, over the pool for Java, and compares which pass with docs/guide/commons-pool-tests.md.
+"""Runs the tests of Commons Pool 2, unchanged, over the pool for Java, and compares which pass with docs/guide/differences.md.
 
-    play_commons_pool.py LIBRARY POOL JUDGE
+    play_commons_pool.py LIBRARY JUDGE
     play_commons_pool.py --fetch
 
-LIBRARY is libzuphinka.a, POOL and JUDGE are programs. COMMONS_POOL2_SOURCE names the folder with the source of Commons Pool 2 of the
+LIBRARY is libzuphinka.a, and JUDGE is the program `judge`. COMMONS_POOL2_SOURCE names the folder with the source of Commons Pool 2 of the
 version that is installed. Else Debian's archive of it is downloaded, unless --fetch has stored it in the folder out. The tests run in several virtual
 machines, over the GenericObjectPool of bindings/java/commons-pool2, which comes before the library's and passes each call on. A test that does not
 end as the page says runs again, alone, up to twice.
@@ -39,7 +39,7 @@ from playing import TOP, scratch, side_by_side
 import java
 from install import heap_of_kit
 
-PAGE = TOP / "docs/guide/commons-pool-tests.md"
+PAGE = TOP / "docs/guide/differences.md"
 OWN = TOP / "tests/commons_pool"
 # The version whose tests these are, and the archive from which Debian builds it.
 VERSION = "2.11.1"
@@ -224,17 +224,17 @@ def checks_of_results(page, results):
         yield test, wanted, got
 
 
-def checks_of_journals(pool, judge, folder):
+def checks_of_journals(judge, folder):
     """What is wanted of the journals, and what they are."""
-    journals = sorted({path.parent for path in folder.glob("journals-*/*/segment-*")})
-    found = list(side_by_side(lambda journal: legal_in(journal, pool, judge), journals))
+    journals = sorted({path.parent for path in folder.glob("journals-*/*/*/segment-*")})
+    found = list(side_by_side(lambda journal: legal_in(journal, judge), journals))
     faults = [f"{journal.name}: {got}" for journal, (wanted, got) in zip(journals, found) if got != wanted]
     print(f"{len(journals) - len(faults)} journals are legal")
     yield "journals that are not legal", [], faults
     yield "there are journals", True, bool(journals)
 
 
-def checks(library, pool, judge):
+def checks(library, judge):
     page = read_page()
     with scratch() as folder:
         source = pathlib.Path(SOURCE) if SOURCE else unpacked(folder)
@@ -248,7 +248,7 @@ def checks(library, pool, judge):
         for test, number in runs.items():
             print(f"{test} ran again, {number} times, and {results[test].end}")
         yield from checks_of_results(page, results)
-        yield from checks_of_journals(pool, judge, folder)
+        yield from checks_of_journals(judge, folder)
 
 
 def main(*words):

@@ -59,7 +59,7 @@ def next_input(pool, at, chance):
         id = chance.one_of(ids)
         phase = pool.phase(id)
         if phase in goes_on:
-            bad = chance.one_of([b"makefail", b"activatefail", b"testfail", b"passivatefail"])
+            bad = chance.one_of([b"makefail", b"createfail", b"activatefail", b"testfail", b"passivatefail"])
             return goes_on[phase], id, bad if chance.below(6) == 0 else b"good"
         if phase == "destroying":
             return b"destroyed", id

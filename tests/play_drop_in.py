@@ -1,9 +1,9 @@
 """Tests the jar with a GenericObjectPool in place of the library's, which tools/java.py builds, before Commons Pool 2 on the class path.
 
-    play_drop_in.py LIBRARY POOL JUDGE
+    play_drop_in.py LIBRARY JUDGE
 
-LIBRARY is libzuphinka.a, and the others are the programs `pool` and `judge`. The class must have all public and protected members of the library's, and
-no others (tests/drop_in/Surface.java). tests/drop_in/DropIn.java changes its settings at any time, also while threads call it.
+LIBRARY is libzuphinka.a, and JUDGE is the program `judge`. The class must have all public and protected members of the library's, and
+a few others (tests/drop_in/Surface.java). tests/drop_in/DropIn.java changes its settings at any time, also while threads call it.
 tests/drop_in/LaterSettings.java prints what calls do after each change, and must print the same over both classes. So must
 tests/drop_in/DataSources.java, which makes calls of DBCP2's BasicDataSource over H2. The journals must be legal, by the settings beside their segments.
 What needs a JDK or a jar that is missing is skipped, with the reason. The library's own tests run over the class in play_commons_pool.py.
@@ -24,8 +24,14 @@ from install import heap_of_kit
 CLASS = "org.apache.commons.pool2.impl.GenericObjectPool"
 # What DBCP2 needs, and the packages that have it.
 JARS = {"commons-dbcp2": "libcommons-dbcp2-java", "commons-logging": "libcommons-logging-java", "h2": "libh2-java"}
+# What the tests have of those of the pool for Java.
+SHARED = ("Expectations", "Lacking")
+# The members that the library's class has not, by their names.
+MORE = ["flushJournal", "getJournalFolder", "metrics", "setLeakDetectionThreshold", "setLeakListener", "setLeakStackTraces"]
 # How many members the class has at least, by the library's documentation of version 2.11.1.
 LEAST_MEMBERS = 100
+# The name of a pool's MBean, as that of a folder; or what stands for it if there is none.
+POOL = re.compile(r"[A-Za-z0-9.]+:[A-Za-z0-9.,:=$_-]+|of_[A-Za-z0-9.$]+")
 
 
 def run(path, *words, options=()):
@@ -38,43 +44,46 @@ def surface(classes, jars):
     library = java.commons_pool()
     done = run([classes], "Surface", CLASS, library, ":".join(map(str, [*jars, library])))
     *others, last = done.stdout.splitlines() or [""]
-    yield "members that one class alone has", [], others
+    yield "members that the library's class alone has", [], [member for member in others if member.startswith("-")]
+    yield "members that this class alone has", MORE, sorted(re.search(r"(\w+)\[", member)[1] for member in others if member.startswith("+"))
     count = re.fullmatch(r"(\d+) members", last)
     yield "there are members", True, count is not None and int(count[1]) >= LEAST_MEMBERS or done.stdout
 
 
-def legal_journals(name, pool, judge, folder):
+def legal_journals(name, judge, folder):
     """What is wanted of the journals in a folder, and what they are."""
-    journals = sorted({segment.parent for segment in folder.glob("*/segment-*")})
+    journals = sorted({segment.parent for segment in folder.glob("*/*/segment-*")})
     yield f"{name}: there are journals", True, bool(journals)
+    names = [journal.parent.name for journal in journals if not POOL.fullmatch(journal.parent.name)]
+    yield f"{name}: folders that have no pool's name", [], names
     for journal in journals:
-        yield f"{name}: {journal.name}", *legal_in(journal, pool, judge)
+        yield f"{name}: {journal.parent.name}/{journal.name}", *legal_in(journal, judge)
 
 
-def same_as_library(name, least_lines, path, drop_in, pool, judge, folder):
+def same_as_library(name, least_lines, path, drop_in, judge, folder):
     """What is wanted of a program over the class, which is what it prints over the library's; and what it does."""
     wanted = run(path, name)
     yield f"{name} over the library", (0, True), (wanted.returncode, len(wanted.stdout.splitlines()) > least_lines or wanted.stdout)
     done = run([drop_in, *path], name, options=[f"-Dzuphinka.journals={folder}"])
     yield name, (wanted.stdout, 0), (done.stdout, done.returncode)
-    yield from legal_journals(name, pool, judge, folder)
+    yield from legal_journals(name, judge, folder)
 
 
-def checks(library, pool, judge):
+def checks(library, judge):
     with scratch() as folder:
         jar = java.build(library, heap_of_kit(), folder / "out")
         jars, classes, others = [java.drop_in(jar.parent), jar], folder / "classes", [java.DEBIAN_JAR.parent / f"{name}.jar" for name in JARS]
-        sources = [*sorted((TOP / "tests/drop_in").glob("*.java")), TOP / "tests/java/Expectations.java"]
+        sources = [*sorted((TOP / "tests/drop_in").glob("*.java")), *(TOP / "tests/java" / f"{name}.java" for name in SHARED)]
         has_jars = has("DBCP2 over the pool for Java", *JARS.values())
         sources = [source for source in sources if has_jars or source.name != "DataSources.java"]
         java.compile_classes(sources, classes, *jars, java.commons_pool(), *others)
         yield from surface(classes, jars)
         path = [classes, java.commons_pool()]
         yield from program("drop-in", run([jars[0], *path], "DropIn", jars[0].name, options=[f"-Dzuphinka.journals={folder / 'journals'}"]))
-        yield from legal_journals("drop-in", pool, judge, folder / "journals")
-        yield from same_as_library("LaterSettings", 100, path, jars[0], pool, judge, folder / "of-later-settings")
+        yield from legal_journals("drop-in", judge, folder / "journals")
+        yield from same_as_library("LaterSettings", 100, path, jars[0], judge, folder / "of-later-settings")
         if has_jars:
-            yield from same_as_library("DataSources", 20, [*path, *others], jars[0], pool, judge, folder / "of-data-sources")
+            yield from same_as_library("DataSources", 20, [*path, *others], jars[0], judge, folder / "of-data-sources")
 
 
 if __name__ == "__main__":

@@ -6,11 +6,12 @@ LIBRARY is libzuphinka.a, as `rt lib` builds it. The headers and the sources of 
 version of the header. The shared library must export the functions that the C compiler finds in the headers, and no other name. Its own name and its
 links must be those of the version, it must need nothing but the system's C library, and Python must load it. first_loan.c, plain_life.c and
 shared_life.c of bindings/c/examples, copied to a folder by themselves, must compile with the flags that pkg-config prints for the archive, for the
-shared library and for a static program, and run; only those of the shared library may need it. A second install must replace each file, and leave
-nothing else. A compiler and an `ar` with words after them serve, in a temporary folder with any name; one that isn't there is named, with status 1.
-bindings/c/Makefile must build the library by tools/build.py, which isn't run here, install the same files, and compile the examples. What is
-installed can be read by all, whoever may read the clone, and serves under a prefix with a space. If
-pkg-config or make isn't installed, what needs it is skipped, which is printed. Without a library nothing is installed, with status 1.
+shared library and for a static program, and run; only those of the shared library may need it. A second install must replace each file, also one that
+is a link, and leave nothing else. A compiler and an `ar` with words after them serve, in a temporary folder with any name; one that isn't there is
+named, with status 1. bindings/c/Makefile must build the library by tools/build.py, which isn't run here, install the same files, and compile the
+examples. What is installed can be read by all, whoever may read the clone and whatever the umask, and serves under a prefix with a space. If
+pkg-config or make isn't installed, what needs it is skipped, which is printed. Without a library nothing is installed, with status 1; nor is anything
+in a folder that can't be written, which one line names.
 
 Prints each run that differs, and in the end the line 'N passed, M failed'.
 """
@@ -35,18 +36,20 @@ INSTALLED = {
     "include/zuphinka.h": INCLUDE / "zuphinka.h",
     "include/zuphinka_pool.h": INCLUDE / "zuphinka_pool.h",
     "share/zuphinka/zuphinka_pool.c": SOURCES / "zuphinka_pool.c",
-    **{f"share/zuphinka/zuphinka_pool_{name}.h": SOURCES / f"zuphinka_pool_{name}.h" for name in ("errors", "metrics", "segments", "sleep")},
+    **{f"share/zuphinka/zuphinka_pool_{name}.h": SOURCES / f"zuphinka_pool_{name}.h" for name in ("errors", "metrics", "places", "segments", "sleep")},
 }
-# The version of the header, and the names of the shared library: its own, that by which programs load it, and that by which `-lzuphinka` finds it.
+# The version of the header, and the names of the shared library: its own, that by which programs load it, and that by which `-lzuphinka` finds it. An
+# interface changes with the minor version until 1.0.0, and then with the major one.
 VERSION = re.search(r'^#define ZUPHINKA_VERSION "(.*)"$', (INCLUDE / "zuphinka.h").read_text(), flags=re.MULTILINE)[1]
-SHARED, LOADED, FOUND = f"libzuphinka.so.{VERSION}", f"libzuphinka.so.{VERSION.partition('.')[0]}", "libzuphinka.so"
+SHARED, FOUND = f"libzuphinka.so.{VERSION}", "libzuphinka.so"
+LOADED = re.match(r"libzuphinka\.so\.(0\.\d+|[1-9]\d*)", SHARED)[0]
 # The libraries of the system that a program may need.
 SYSTEM = {"libc.so.6", "libpthread.so.0", "ld-linux-x86-64.so.2"}
 THREADS, ROUNDS = 4, 500
 
 
-def install(prefix, library):
-    return run(sys.executable, TOP / "tools/install.py", "--prefix", prefix, "--library", library)
+def install(prefix, library, *before):
+    return run(*before, sys.executable, TOP / "tools/install.py", "--prefix", prefix, "--library", library)
 
 
 def declared():
@@ -137,9 +140,14 @@ def files(prefix):
 
 
 def second(prefix, library):
-    """All is installed once more: each library and link is another one, so that a program that runs keeps its own."""
+    """All is installed once more: each library and link is another one, so that a program that runs keeps its own. A file that is a link is replaced."""
+    elsewhere, description = prefix.parent / "elsewhere", prefix / "lib/pkgconfig/zuphinka.pc"
+    elsewhere.write_text("of somebody else\n")
+    description.unlink()
+    description.symlink_to(elsewhere)
     before, done = files(prefix), install(prefix, library)
     after = files(prefix)
+    yield "a file for pkg-config that is a link", (False, "of somebody else\n"), (description.is_symlink(), elsewhere.read_text())
     kept = [name for name in before if name.startswith("lib/libzuphinka") and before[name] == after.get(name)]
     yield "a second install", (0, b""), (done.returncode, done.stderr)
     yield "the files of a second install", sorted(before), sorted(after)
@@ -160,15 +168,30 @@ def commands(folder, library):
 
 
 def modes(folder, library):
-    """The modes of what is installed from a clone that nobody else may read."""
-    clone, prefix = folder / "clone", folder / "readable"
+    """The modes of what is installed from a clone that nobody else may read, while new files are hidden."""
+    clone, there, prefix = folder / "clone", folder / "there", folder / "there/new/prefix"
+    there.mkdir(mode=0o700)
     for name in "tools", "bindings/c":
         shutil.copytree(TOP / name, clone / name, ignore=shutil.ignore_patterns("out"))
     shutil.copy(TOP / "VERSION", clone)
     for file in (path for path in clone.rglob("*") if path.is_file()):
         file.chmod(0o600)
-    yield "an install from such a clone", 0, run(sys.executable, clone / "tools/install.py", "--prefix", prefix, "--library", library).returncode
-    yield "the modes", {0o644, 0o755}, {path.lstat().st_mode & 0o777 for path in prefix.rglob("*") if path.is_file() and not path.is_symlink()}
+    done = run(sys.executable, clone / "tools/install.py", "--prefix", prefix, "--library", library, umask=0o077)
+    yield "an install from such a clone", 0, done.returncode
+    found = {path: path.lstat().st_mode & 0o777 for path in [there, *there.rglob("*")] if not path.is_symlink()}
+    yield "the modes of files", {0o644, 0o755}, {mode for path, mode in found.items() if path.is_file()}
+    yield "the modes of new folders", {0o755}, {mode for path, mode in found.items() if path.is_dir() and path != there}
+    yield "the mode of a folder that was there", 0o700, found[there]
+
+
+def closed(folder, library):
+    """Folders that can't be written: one without the right to, which the superuser gives up, and one that is a file."""
+    (folder / "closed").mkdir(mode=0o555)
+    (folder / "file").touch()
+    unable = [] if os.geteuid() else ["setpriv", "--bounding-set=-dac_override", "--inh-caps=-dac_override"]
+    for prefix, first, reason in ("closed", "closed/include", "Permission denied"), ("file/below", "file", "File exists"):
+        wanted = f"{folder / first}: {reason}\n".encode()
+        yield f"an install in {prefix}", (b"", wanted, 1), ended(install(folder / prefix, library, *unable))
 
 
 def make(*words, **options):
@@ -234,6 +257,7 @@ def checks(library):
         yield from installed_files(folder / "prefix", library)
         yield from commands(folder, library)
         yield from modes(folder, library)
+        yield from closed(folder, library)
         if has("programs under a prefix with a space", "pkgconf"):
             yield "an install under a prefix with a space", 0, install(folder / "a b", library).returncode
             yield from programs(folder / "a b")

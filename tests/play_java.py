@@ -4,16 +4,19 @@
 
 LIBRARY is libzuphinka.a, and the others are programs. tests/java/Calls.java makes each call of a pool, with what the factory throws.
 tests/java/Policies.java has eviction policies of the user's own, in this pool and in Commons Pool. tests/java/Errors.java lets everything that a pool
-calls end in an error, and calls pools on a full stack. tests/java/Waits.java lets threads wait, also on a full heap, and counts who overtakes.
-tests/java/Measures.java reads metrics, whose texts must be in the format. tests/java/Stress.java makes random calls in eight threads over a factory
-that fails at random. tests/java/Refusals.java refuses the native library each of its allocations in turn. tests/java/Folders.java has pools that want
-one folder, and folders that are removed. tests/java/Reconfigures.java changes the settings of pools in use, also beside threads, and
-tests/java/RefusedChanges.java while allocations fail: JUDGE must find each segment legal by the settings beside it, and each must begin at the base
-that the one before it reached. tests/java/Loaders.java has pools in two class loaders, where temporary folders are unfit. A pool runs in a module
-too. The journals that they write must be legal. A stored file must be synced before it has its name, and its folder afterwards. The jar must have the
-version of all products and load nothing but the C library, and the codes of io.github.zuphinka.Core must be those of bindings/c/include/zuphinka.h.
-Each public and protected item must have documentation in which javac finds nothing wrong. The examples are run by the commands of
-bindings/java/README.md; the journal of that over DBCP2 must be drawn. What needs a JDK or a jar that is missing is skipped, with the reason.
+calls end in an error, and calls pools on a full stack, also where the virtual machine keeps more of each stack for itself. tests/java/Waits.java lets
+threads wait, also on a full heap, and counts who overtakes. tests/java/Measures.java reads metrics, whose texts must be in the format.
+tests/java/Stress.java makes random calls in eight threads over a factory that fails at random. tests/java/Refusals.java refuses the native library
+each of its allocations in turn. tests/java/Folders.java has pools below one folder, and folders that are removed. tests/java/Flushes.java stores
+journals from time to time, and tests/java/Exits.java ends while an object is lent: its journal must have all entries, also if it is killed once they
+are there. tests/java/Overdue.java has loans that last too long, and tests/java/Lifetimes.java objects that are too old. tests/java/Reconfigures.java
+changes the settings of pools in use, also beside threads, and tests/java/RefusedChanges.java while allocations fail: JUDGE must find each segment
+legal by the settings beside it, and each must begin at the base that the one before it reached. tests/java/Loaders.java has pools in two class
+loaders, where temporary folders are unfit. A pool runs in a module too. The journals that they write must be legal. A stored file must be synced
+before it has its name, and its folder afterwards. The jar must have the version of all products and load nothing but the C library, and the codes of
+io.github.zuphinka.Core must be those of bindings/c/include/zuphinka.h. Each public and protected item must have documentation in which javac finds
+nothing wrong. The examples are run by the commands of bindings/java/README.md; the journal of that over DBCP2 must be drawn. What needs a JDK or a
+jar that is missing is skipped, with the reason.
 
 Prints what fails, and in the end the line 'N passed, M failed'.
 """
@@ -23,15 +26,16 @@ import os
 import pathlib
 import re
 import shlex
+import shutil
 import subprocess
 import sys
+import time
 import zipfile
 
 import openmetrics
 import playing
-from changed_settings import files_of, judged
 from check_picture import differences
-from playing import LONGEST, TOP, has, play_checks, preloaded, scratch, skip, skip_all
+from playing import LONGEST, TOP, has, play_checks, preloaded, scratch, skip, skip_all, start_of, stored_journal
 
 import java
 from install import heap_of_kit, version
@@ -41,15 +45,17 @@ COUNT = re.compile(r"^(\d+) passed, (\d+) failed$", flags=re.MULTILINE)
 WARNING = re.compile(r"(?:WARNING|FATAL ERROR) in native method")
 # The time of an entry, in milliseconds.
 TIME = re.compile(r'^\d+ (\d+) .* = ', flags=re.MULTILINE)
-# A file of a journal that has no name of its own yet. No two pools have the same.
-UNFINISHED = re.compile(r"\.unfinished-[0-9a-f-]{36}")
+# At how many entries tests/java/Calls.java has its journal cut.
+CUT = 50
+# How tests/java/Exits.java ends.
+EXITS = ("close", "exit", "main", "killed")
 SEEDS, MILLIS = range(8), 700
 # Test programs that need nothing but the library, and a new folder or none.
-OVER_FOLDERS, PROGRAMS = ("Policies", "Measures", "Reconfigures"), ("Errors", "Waits", "LostPlaces")
+OVER_FOLDERS, PROGRAMS = ("Policies", "Measures", "Reconfigures", "Flushes", "Lifetimes"), ("Errors", "Waits", "LostPlaces", "Overdue")
 # How many borrows tests/java/Measures.java makes while it reads metrics, and the names of its pools.
 MEASURED, NAMES = 80_000, ["a", 'say "b\\"\nc']
-# The functions by which the native library allocates, which tests/refuse_java.c wraps.
-ALLOCATORS = ("malloc", "calloc", "realloc")
+# The functions that the native library calls and tests/refuse_java.c wraps.
+WRAPPED = ("malloc", "calloc", "realloc", "free", "zuphinka_is_lent")
 # The most bytes of a part of a text there.
 SHORT_PART = 512
 # What the example over DBCP2 needs, and the packages that have it.
@@ -108,10 +114,10 @@ def legal(pool, settings, *journals):
     return "legal", done.stdout.partition(" ")[0] or done.stderr
 
 
-def legal_in(folder, pool, judge):
-    """What is wanted of the journal in a folder, and what came of it: segments with several settings are judged one by one."""
-    settings, segments = files_of(folder)
-    return ("legal", judged(judge, folder)[0] or "legal") if len(settings) > 1 else legal(pool, *settings, *segments)
+def legal_in(folder, judge):
+    """What is wanted of the journal in a folder, and what came of it."""
+    done = playing.run(judge, folder, text=True)
+    return "legal", done.stdout.partition(" ")[0] or done.stderr
 
 
 def falls(*segments):
@@ -120,9 +126,9 @@ def falls(*segments):
     return [pair for pair in itertools.pairwise(times) if pair[0] > pair[1]] if times else "no entries"
 
 
-def found(jar, classes, folder):
+def found(jar, classes, native, folder):
     """What is wanted of runs in two class loaders each, and what came of it: the native library is found in each place that the page names, and its
-    copy in a folder that takes it."""
+    copy in a folder that takes it. One of tests/refuse_java.c holds no memory once its class loader is collected."""
     with zipfile.ZipFile(jar) as packed:
         packed.extractall(folder / "bare", [name for name in packed.namelist() if name.endswith(".class")])
     good, other, bad = folder / "good", folder / "home", folder / "bad"
@@ -131,6 +137,7 @@ def found(jar, classes, folder):
     refuse = {"LD_PRELOAD": str(preloaded("refuse_folders", folder))}
     places = [
         ("by its property", folder / "bare", [library], {}),
+        ("without its memory", folder / "bare", [f"-Dzuphinka.library={native}"], {"HELD": str(folder / "held")}),
         ("by the path of libraries", folder / "bare", [f"-Djava.library.path={jar.parent}"], {}),
         ("in the jar", jar, home, {}),
         ("without a temporary folder", jar, [f"-Djava.io.tmpdir={bad}"], {}),
@@ -138,6 +145,7 @@ def found(jar, classes, folder):
         ("with a folder that runs nothing", jar, home, refuse | {"NOEXEC": str(good)}),
     ]
     for name, path, options, variables in places:
+        options = [*options, f"-Djournals={folder / 'of-loaders'}"]
         done = run(path, classes, "Loaders", classes, path, java.commons_pool(), options=options, variables=variables)
         yield from program(f"the native library {name}", done)
     nowhere = [f"-D{name}={bad}" for name in ("java.io.tmpdir", "user.home", "user.dir")]
@@ -169,7 +177,7 @@ def measures(place):
 def refusing(library, folder):
     """The native library with short parts of texts, and with the native methods of io.github.zuphinka.Refusal."""
     native = folder / "refusing.so"
-    flags = [*(f"-Wl,--wrap={name}" for name in ALLOCATORS), f"-DZUPHINKA_JNI_LONGEST_PART={SHORT_PART}"]
+    flags = [*(f"-Wl,--wrap={name}" for name in WRAPPED), f"-DZUPHINKA_JNI_LONGEST_PART={SHORT_PART}"]
     java.compile_native(library, heap_of_kit(), native, *flags, TOP / "tests/refuse_java.c")
     return native
 
@@ -183,30 +191,65 @@ def refusals(jar, classes, native, pool, folder):
     yield from program("a full heap", run(jar, classes, "Refusals", "heap", options=["-Xmx24m", "-XX:+UseSerialGC", java.QUICK]))
 
 
+def size_until(file, entries):
+    """How many bytes a file has until so many entries."""
+    lines = file.read_bytes().splitlines(keepends=True)
+    last = [number for number, line in enumerate(lines) if b" = " in line and file.name.startswith("segment-")][entries - 1 : entries]
+    return sum(map(len, lines[: last[0] + 1] if last else lines))
+
+
 def calls(jar, classes, pool, folder):
     """What is wanted of the calls, of their journals, and of the order in which files of these are synced and renamed; and what came of it."""
     place, noted, wanted = folder / "calls", folder / "noted", []
     variables = {"NOTED": str(noted), "LD_PRELOAD": str(preloaded("note_syncs", folder))}
     yield from played("Calls", jar, classes, pool, place, variables=variables)
     for above in [place], [place, place / "interrupted"]:
-        journal = above[-1] / "stored"
-        wanted += [f"sync {existing} 0" for existing in above]
+        journal = start_of(above[-1] / "stored")
+        wanted += [f"sync {existing} 0" for existing in [*above, journal.parent]]
         segments = sorted(journal.glob("segment-*"))
-        for file, way in (journal / "settings.toml", "link"), *((segment, "rename") for segment in segments):
-            unfinished = journal / ".unfinished"
-            wanted += [f"sync {unfinished} {file.stat().st_size}", f"{way} {unfinished} {file}", f"sync {journal} 0"]
-        yield f"calls: {journal.parent.name}/stored", *legal(pool, journal / "settings.toml", *segments)
-    lines = [line for line in noted.read_text().splitlines() if str(place) in line]
-    yield "calls: syncs, links and renames", wanted, [UNFINISHED.sub(".unfinished", line) for line in lines]
-    yield "calls: names of unfinished files", 2, len({name for line in lines for name in UNFINISHED.findall(line)})
+        for file in journal / "start.toml", journal / "settings.toml", segments[0], journal / "callers.txt", *segments[1:]:
+            unfinished, size, begun = journal / ".unfinished", file.stat().st_size, size_until(file, CUT)
+            wanted += [f"sync {unfinished} {begun}", f"rename {unfinished} {file}", f"sync {journal} 0", *[f"sync {file} {size}"] * (size > begun)]
+        yield f"calls: {journal.parent.name}", *legal(pool, journal / "settings.toml", *segments)
+    yield "calls: syncs and renames", wanted, [line for line in noted.read_text().splitlines() if str(place) in line]
 
 
-def reconfigures(pool, judge, place):
+def journals_below(place, judge):
+    """What is wanted of the journals of pools below a folder, and what they are."""
+    starts = sorted(path.parent for path in place.rglob("settings.toml"))
+    yield f"{place.name}: there are journals", True, bool(starts)
+    for start in starts:
+        yield f"{place.name}: {start.parent.name}/{start.name}", *legal_in(start, judge)
+
+
+def exits(jar, classes, pool, place):
+    """What is wanted of the journals of processes that end while an object is lent, with a maintenance thread and without one; and what they are."""
+    for end in EXITS:
+        for more in [], ["maintained"]:
+            name = " ".join(["exits:", end, *more])
+            command = [java.jdk() / "bin/java", java.QUICK, "-cp", f"{classes}:{jar}:{java.commons_pool()}", "Exits", place / name, end, *more]
+            with subprocess.Popen(list(map(str, command)), stdout=subprocess.PIPE, text=True) as program:
+                start, steps = pathlib.Path(program.stdout.readline().strip()), int(program.stdout.readline())
+                until = time.monotonic() + LONGEST
+                while end == "killed" and entries_in(start) < steps and time.monotonic() < until:
+                    time.sleep(0.1)
+                if end == "killed":
+                    program.kill()
+                yield f"{name}: the status", -9 if end == "killed" else 0, program.wait(LONGEST)
+            yield f"{name}: stored entries", (steps, True), (entries_in(start), steps > 5)
+            yield f"{name}: its journal", *stored_journal(pool, place / name)
+
+
+def entries_in(start):
+    """How many entries are stored in a folder."""
+    return sum(len(TIME.findall(segment.read_text())) for segment in start.glob("segment-*"))
+
+
+def reconfigures(judge, place):
     """What is wanted of the journals of pools whose settings change, and what they are."""
-    for journal in sorted(place.iterdir()):
+    for journal in map(start_of, sorted(place.iterdir())):
         yield f"reconfigures: {journal.name}: files of settings", True, len([*journal.glob("settings-*.toml")]) > 0
-        yield f"reconfigures: {journal.name}", *legal_in(journal, pool, judge)
-        yield f"reconfigures: {journal.name}: all segments", *legal(pool, journal / "settings.toml", *files_of(journal)[1])
+        yield f"reconfigures: {journal.name}", *legal_in(journal, judge)
 
 
 def portable(jar):
@@ -251,7 +294,7 @@ def example(name, report, pool, folder):
     yield f"{name}: its commands", 1, len(commands)
     done = playing.run("bash", "-ec", f"{commands[0]}{shlex.quote(str(folder))}", cwd=TOP, text=True)
     yield f"{name}: what it prints", True, re.fullmatch(report, done.stdout) is not None or done.stdout + done.stderr
-    yield f"{name}: its journal", *legal(pool, folder / "settings.toml", *sorted(folder.glob("segment-*")))
+    yield f"{name}: its journal", *stored_journal(pool, folder)
 
 
 def examples(pool, picture, folder):
@@ -263,7 +306,9 @@ def examples(pool, picture, folder):
     yield from example("Servers", r"180 requests were answered over \d+ connections\n", pool, folder / "servers")
     if has("the example Bank", *EXAMPLE_JARS.values()):
         yield from example("Bank", BANK, pool, folder / "bank")
-        yield "Bank: its picture", [], differences(picture, *sorted((folder / "bank").glob("segment-*")))
+        # Beside them a picture would have the names of their callers.
+        (folder / "drawn").mkdir()
+        yield "Bank: its picture", [], differences(picture, *(shutil.copy(path, folder / "drawn") for path in sorted(folder.glob("bank/*/segment-*"))))
 
 
 def checks(library, pool, picture, judge):
@@ -281,17 +326,19 @@ def checks(library, pool, picture, judge):
             yield from played(name, jar, classes, pool, folder / name.lower())
         for name in PROGRAMS:
             yield from program(name.lower(), run(jar, classes, name))
+        yield from program("errors where more stack is kept", run(jar, classes, "Errors", options=["-XX:StackShadowPages=50"]))
         yield from program("waits on a full heap", run(jar, classes, "Waits", "heap", options=HEAP))
         yield from measures(folder / "measures")
-        yield from reconfigures(pool, judge, folder / "reconfigures")
+        yield from reconfigures(judge, folder / "reconfigures")
         native = refusing(library, folder)
         yield from refusals(jar, classes, native, pool, folder)
         options = [f"-Dzuphinka.library={native}", java.QUICK]
         yield from program("refused changes", run(jar, classes, "RefusedChanges", options=options))
         yield from played("Folders", jar, classes, pool, folder / "folders", options=[*options, "-XX:MaxDirectMemorySize=2m"])
-        for settings in sorted((folder / "folders").rglob("settings.toml")):
-            yield f"folders: {settings.parent.name}", *legal(pool, settings, *sorted(settings.parent.glob("segment-*")))
-        yield from found(jar, classes, folder)
+        for name in "folders", "flushes", "lifetimes":
+            yield from journals_below(folder / name, judge)
+        yield from exits(jar, classes, pool, folder / "exits")
+        yield from found(jar, classes, native, folder)
         options = ["-p", f"{jar}:{java.commons_pool()}", "--add-modules", java.MODULE]
         yield from program("a module", run(classes, classes, "Stress", 1, 50, folder / "module", options=options))
         yield from documentation(folder / "documented")
@@ -300,9 +347,8 @@ def checks(library, pool, picture, judge):
             journal = folder / f"stress-{seed}"
             words = ["abandoned"] * (seed % 2) + ["bare"] * (seed // 2 % 2)
             yield from program(f"stress {seed}", run(jar, classes, "Stress", seed, MILLIS, journal, *words))
-            segments = sorted(journal.glob("segment-*"))
-            yield f"stress {seed}: its journal", *legal(pool, journal / "settings.toml", *segments)
-            yield f"stress {seed}: times that fall", [], falls(*segments)
+            yield f"stress {seed}: its journal", *stored_journal(pool, journal)
+            yield f"stress {seed}: times that fall", [], falls(*sorted(start_of(journal).glob("segment-*")))
 
 
 if __name__ == "__main__":

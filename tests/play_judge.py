@@ -1,4 +1,4 @@
-"""Judges segments of journals by themselves, in any order, and joins what was found, as many machines would.
+"""Judges segments of journals by themselves, in any order, and joins what was found, as many machines would; and all that are in a folder.
 
     play_judge.py JUDGE POOL CASES..
 
@@ -7,19 +7,22 @@ segments of a journal are one legal journal where each is legal by itself, the f
 with the lines that were written of the one before it.
 
 - Of each case with segments and a verdict all segments are judged, in an order by chance. Joined, they must be legal exactly where the verdict
-  says so; where it does, what is written of each must be the lines of the next one's base.
+  says so; where it does, what is written of each must be the lines of the next one's base. `JUDGE --join` must say the same, and
+  `JUDGE FOLDER` the verdict, with the segment that has the error.
 - Three segments are damaged: in each place a byte is changed, dropped or doubled. Joined, they must be legal exactly where those of
-  tests/pool_model.py are. tests/play_segments.py has `POOL check` over the same.
+  tests/pool_model.py are, whose verdict `JUDGE FOLDER` must give. tests/play_segments.py has `POOL check` over the same.
 - The inputs of each case with a legal verdict are answered anew by tests/pool_model.py, whose settings change in the middle: from there on there is one
-  place, or none, which the objects may exceed. Each segment must be legal with its own settings, and reach the next one's base. `POOL check` must find
-  them legal with the new settings beside the second, and answer as the model without them.
-- New settings that leave no room for outstanding entries, and a file beside a segment that is no settings file, have their lines.
+  place, or none, which the objects may exceed. Each segment must be legal with its own settings, and reach the next one's base. `JUDGE FOLDER` must find
+  them legal, and `POOL check` answer as the model with the first settings for both.
+- New settings that leave no room for outstanding entries, or are none, have their lines; so have folders that lack something. In a folder with a folder
+  for each start each is judged.
+- `JUDGE --held` must list the objects that are held at the end, by the names and with the times of day that the folder has.
 - The commands of docs/guide/audits.md that check segments and join them are run on these: they must find them legal where the verdict does.
   The command for GNU parallel is run here for each segment, and so is the array job for each of its tasks.
 - Other arguments, requests for help or the version, and files that cannot be opened, read or taken, must have the line, which names the file,
   and the status that crates/judge/specs/Messages.antt says.
-- Segments that another one follows are judged once for each allocation, which is refused then: nothing is written, the status is 3 and
-  the line tells of memory, as no other fault; or all is written, where it can do without what was refused.
+- Segments that another one follows are judged once for each allocation, which is refused then, and so are folders, joins and lists: nothing is written, the
+  status is 3 and the line tells of memory, as no other fault; or all is written, where it can do without what was refused.
 
 Prints what differs, and in the end the line 'N passed, M failed'.
 """
@@ -31,10 +34,9 @@ import sys
 
 from argument_rules import version
 from case_files import unpacked, wanted_of
-from changed_settings import EMPTY_BASE as EMPTY
 from play_commands import TOP, blocks, commands
 from play_damaged import Chance
-from play_segments import THREE, damaged_segments, play_trials, segmented
+from play_segments import EMPTY, THREE, damaged_segments, play_trials, segmented
 from playing import differing, ended, preloaded, refusals, run, scratch, write_files
 from pool_model import LineFault, Pool, read_entry, settings_of, verdict_of_segments, words_of
 
@@ -76,10 +78,37 @@ def texts_of(case):
     return [text for text, _ in case.segments]
 
 
-def of_case(judge, case, settings, paths, chance):
-    reached = reached_by(judge, settings, paths, chance)
-    wrong = are_joined(texts_of(case), reached) != is_legal(case)
-    return [f"{case.name}: legal is {is_legal(case)}, reached {reached}"] * wrong
+def of_case(judge, case, chance):
+    return of_segments(judge, case.name, case.settings, texts_of(case), case.verdict, chance)
+
+
+def of_segments(judge, name, settings, segments, verdict, chance):
+    """What differs where segments in a folder are judged by themselves and joined, and all at once."""
+    legal = verdict.startswith(b"legal ")
+    with scratch() as room:
+        (room / "reached").mkdir()
+        first, *paths = write_files(room, {"settings.toml": settings, **{f"segment-{at}": text for at, text in enumerate(segments)}})
+        reached = reached_by(judge, first, paths, chance)
+        write_files(room / "reached", {path.name: text for path, text in zip(paths, reached) if text is not None})
+        found = [f"{name}: legal is {legal}, reached {reached}"] * (are_joined(segments, reached) != legal)
+        joined = ended(run(judge, "--join", room, room / "reached"))
+        wanted = (b"one legal journal\n", b"", 0) if legal else (b"not legal from %s/segment-" % bytes(room), b"", 1)
+        found += [f"{name}, joined: {joined}"] * (not joined[0].startswith(wanted[0]) or joined[1:] != wanted[1:])
+        return found + of_folder(judge, name, room, paths, segments, verdict.rstrip(b"\n"))
+
+
+def of_folder(judge, name, room, paths, segments, verdict):
+    """What differs where all segments in a folder are judged."""
+    if verdict.startswith(b"legal "):
+        return differing(f"{name}, in a folder", (verdict + b"\n", b"", 0), run(judge, room))
+    if verdict.startswith(b"pool: "):
+        done, told = run(judge, room), re.escape(verdict.removeprefix(b"pool: "))
+        is_right = (done.stdout, done.returncode) == (b"", 3) and re.fullmatch(rb"judge: \S+/segment-\d+: " + told + b"\n", done.stderr)
+        return [f"{name}, in a folder: {done}"] * (not is_right)
+    words, ends = verdict.split(), list(itertools.accumulate(text.count(b" = ") for text in segments))
+    number = int(words[2]) if words[1] == b"base" else next(at for at, end in enumerate(ends) if int(words[1]) < end)
+    told = b"judge: %s: %s\n" % (bytes(paths[number]), verdict)
+    return differing(f"{name}, in a folder", (verdict + b"\n", told, 1), run(judge, room))
 
 
 def of_change(judge, program, case, places):
@@ -94,47 +123,100 @@ def of_change(judge, program, case, places):
     changed = b"maxTotal = %d\n" % places + re.sub(rb"^maxTotal = .*$", b"", case.settings, flags=re.MULTILINE)
     first, second = "segment-" + "0" * 20, f"segment-{position:020}"
     with scratch() as room:
-        write_files(room, {"settings.toml": case.settings, f"settings-{position:020}.toml": changed, first: before, second: after})
-        (room / "reached").mkdir()
-        (room / "judge").symlink_to(pathlib.Path(judge).resolve())
-        found = differing(f"{case.name}, whose settings change", (b"", b"", 0), run("sh", "-c", f"PATH=.:$PATH; {shell_of_page()[-1]}", cwd=room))
-        reached = [(room / "reached" / segment).read_bytes() for segment in (first, second)]
-        check = program, "check", *(room / file for file in ("settings.toml", first, second))
-        found += differing(f"{case.name}, checked with both settings", (b"legal %d\n" % pool.position, b"", 0), run(*check))
-        (room / f"settings-{position:020}.toml").unlink()
+        rules, later = write_files(room, {"settings.toml": case.settings, f"settings-{position:020}.toml": changed})
+        paths = write_files(room, {first: before, second: after})
+        reached = [run(judge, settings, path).stdout for settings, path in zip((rules, later), paths)]
+        found = [f"{case.name}, whose settings change: reached {reached}"] * (reached != [due, b"".join(pool.base())])
+        found += differing(f"{case.name}, checked with both settings", (b"legal %d\n" % pool.position, b"", 0), run(judge, room))
         wanted = wanted_of(verdict_of_segments(settings_of(case.settings.decode()), [before, after]))
-        found += differing(f"{case.name}, checked with the first settings", wanted, run(*check))
-    return found + [f"{case.name}, whose settings change: reached {reached}"] * (reached != [due, b"".join(pool.base())])
+        return found + differing(f"{case.name}, checked with the first settings", wanted, run(program, "check", rules, *paths))
 
 
-# Settings beside a second segment, before which an object is being made: what `check` writes, and what it tells of that segment.
-BESIDE = {
+# Later settings of a segment, before which an object is being made: what is written, and what is told of the file with the error.
+LATER = {
     b"maxTotal = 0\n": (b"legal 2\n", "", 0),
-    b"journalLimit = 1\n": (b"", "pool: base: no room\n", 3),
-    b"maxTotal = many\n": (b"", "pool: settings: not TOML, beside {}\n", 3),
-    b"maxTotl = 8\n": (b"", "pool: settings: unknown key maxTotl, beside {}\n", 3),
+    b"journalLimit = 1\n": (b"", "judge: {}/segment-1: base: no room\n", 3),
+    b"maxTotal = many\n": (b"", "judge: {}/settings-1.toml: settings: not TOML\n", 3),
+    b"maxTotl = 8\n": (b"", "judge: {}/settings-1.toml: settings: unknown key maxTotl\n", 3),
 }
 
 
-def of_beside(program):
+def of_later(judge):
     pool = Pool(settings_of(""))
     first = EMPTY + answered(pool, [b"0 1 borrow 1 = make 0"])
     second = b"".join(pool.base()) + answered(pool, [b"0 2 ready 0 good = lent"])
     found = []
-    with scratch() as name:
-        paths = [f"{name}/{file}" for file in ("settings.toml", "segment-0", "segment-1")]
-        for text, (output, told, status) in BESIDE.items():
-            write_files(name, {"settings.toml": b"", "segment-0": first, "segment-1": second, "settings-1.toml": text})
-            wanted = output, told.format(paths[-1]).encode(), status
-            found += differing(f"{text} beside a segment", wanted, run(program, "check", *paths))
-        write_files(name, {"settings-0.toml": b"", "settings-1.toml": b"", "settings.toml": b"maxTotal = 0\n"})
-        found += differing("settings beside the first segment", (b"legal 2\n", b"", 0), run(program, "check", *paths))
-        loop = name / "settings-1.toml"
-        loop.unlink()
-        loop.symlink_to(loop.name)
-        wanted = b"", f"pool: cannot open the settings beside {paths[-1]}\n".encode(), 3
-        found += differing("a file beside a segment that leads to itself", wanted, run(program, "check", *paths))
+    with scratch() as room:
+        write_files(room, {"settings.toml": b"", "segment-0": first, "segment-1": second})
+        for text, (output, told, status) in LATER.items():
+            write_files(room, {"settings-1.toml": text})
+            found += differing(f"{text} from a segment on", (output, told.format(room).encode(), status), run(judge, room))
+        write_files(room, {"settings.toml": b"maxTotal = 0\n", "settings-0.toml": b"", "settings-1.toml": b"", "settings-9.toml": b"maxTotal = 0\n"})
+        found += differing("settings from the first segment on", (b"legal 2\n", b"", 0), run(judge, "--", room))
+        (room / "settings-1.toml").unlink()
+        (room / "settings-1.toml").symlink_to("settings-1.toml")
+        found += differing("settings that lead to themselves", (b"", b"judge: cannot open %s/settings-1.toml\n" % bytes(room), 3), run(judge, room))
     return found
+
+
+def of_starts(judge):
+    """What differs in folders of starts, and in those that lack something."""
+    stray = THREE[0].replace(b"check", b"gone")
+    with scratch() as room:
+        found = differing("no folder", (b"", b"judge: cannot open %s/none\n" % bytes(room), 3), run(judge, room / "none"))
+        found += differing("a folder without a journal", line_of(room, "no settings.toml, and no folder with one"), run(judge, room))
+        found += differing("a folder without segments to join", line_of(room, "no segments"), run(judge, "--join", room, room))
+        for name in "1-first", "2-begun", "3-whole", "notes":
+            (room / name).mkdir()
+        (room / "2-begun/start.toml").write_text('zero = "2026-11-30T03:54:57.120Z"\n')
+        write_files(room / "3-whole", {"settings.toml": b"", **{f"segment-{at}": text for at, text in zip((0, 4, 7), THREE)}})
+        begun, whole = b"2-begun: legal 0\n", b"3-whole: legal 10\n"
+        write_files(room / "1-first", {"settings.toml": b"", "segment-000": THREE[0]})
+        found += differing("three starts", (b"1-first: legal 4\n" + begun + whole, b"", 0), run(judge, room))
+        write_files(room / "1-first", {"segment-000": stray})
+        told = b"judge: %s/1-first/segment-000: illegal 2 check\n" % bytes(room)
+        found += differing("a start that is not legal", (b"1-first: illegal 2 check\n" + begun + whole, told, 1), run(judge, room))
+        write_files(room / "1-first", {"segment-000": b"x\n"})
+        told = b"judge: %s/1-first/segment-000: line 1: not a line\n" % bytes(room)
+        found += differing("a start with an error", (begun + whole, told, 3), run(judge, room))
+        (room / "1-first/settings.toml").unlink()
+        found += differing("a start without settings", line_of(room / "1-first", "no settings.toml"), run(judge, room / "1-first"))
+        write_files(room / "3-whole", {"segment-7.old": b""})
+        for words in [room / "3-whole"], ["--join", room / "3-whole", room]:
+            found += differing(f"{words}", line_of(room / "3-whole/segment-7.old", "no position in the name"), run(judge, *words))
+        (room / "3-whole/segment-7.old").unlink()
+        (room / "3-whole/segment-0").unlink()
+        told = b"judge: %s/3-whole/segment-4: illegal base 0\n" % bytes(room)
+        return found + differing("the first segment is lost", (b"illegal base 0\n", told, 1), run(judge, room / "3-whole"))
+
+
+def line_of(path, told):
+    """What is wanted of a run that names a path in its line."""
+    return b"", f"judge: {path}: {told}\n".encode(), 3
+
+
+def of_held(judge):
+    """What differs in the lists of objects that are held."""
+    with scratch() as room:
+        write_files(room, {"settings.toml": b"", **{f"segment-{at}": text for at, text in zip((0, 4), THREE)}})
+        rows = b"object 0: made ready by caller 0 since 21 ms\nobject 1: made by caller 1 since 22 ms\n"
+        found = differing("held, without names", (rows, b"", 0), run(judge, "--held", room))
+        zero = b'started = "2026-11-30T03:54:57.123Z"\nzero = "2026-11-30T03:54:57.120Z"\nprocess = 4711\n'
+        write_files(room, {"start.toml": zero, "callers.txt": b"0 main\n1 worker-1\n0 worker-\xc2\x85\n1\nx y\n1 cut off"})
+        rows = b"object 0: made ready by worker-\\u0085 since 2026-11-30T03:54:57.141Z\n"
+        rows += b"object 1: made by worker-1 since 2026-11-30T03:54:57.142Z\n"
+        found += differing("held, with names and times of day", (rows, b"", 0), run(judge, "--held", room))
+        later = room / "starts/2"
+        later.mkdir(parents=True)
+        (room / "starts/3").mkdir()
+        write_files(later, {"segment-0": THREE[0].partition(b"0 15")[0]})
+        found += differing("held at the last start", (b"object 0: held by caller 0 since 11 ms\n", b"", 0), run(judge, "--held", room / "starts"))
+        write_files(later, {"segment-0": THREE[1].partition(b"0 20")[0].replace(b"idle", b"lent")})
+        found += differing("held since before the journal", (b"object 0: held by an unknown caller since 11 ms\n", b"", 0), run(judge, "--held", later))
+        write_files(room, {"start.toml": b"zero = 1\n"})
+        found += differing("no time of day", line_of(room, "no time of day in start.toml"), run(judge, "--held", room))
+        write_files(later, {"segment-0": THREE[0] + b"x\n"})
+        return found + differing("no journal", line_of(later / "segment-0", "line 6: not a line"), run(judge, "--held", later))
 
 
 def answered(pool, requests):
@@ -151,7 +233,7 @@ def answered(pool, requests):
 
 
 def shell_of_page():
-    """The shell commands that the page shows for other programs: for GNU parallel, for a cluster, and for a folder whose settings changed."""
+    """The shell commands that the page shows for other programs: for GNU parallel, and for a cluster."""
     return re.findall(r"^```sh\n(.*?)^```$", (TOP / "docs/guide/audits.md").read_text(), flags=re.MULTILINE | re.DOTALL)
 
 
@@ -159,17 +241,17 @@ def scripts_of_page():
     """The page's ways to check all segments, each with its join: by processes, by the command for GNU parallel, and by the array job; and that job."""
     page = TOP / "docs/guide/audits.md"
     shown = [command for block in blocks(page) for command in commands(block)]
-    made, processes, *join = shown[shown.index("mkdir reached") :]
-    parallel, job, _ = shell_of_page()
+    made, processes, join = shown[shown.index("mkdir reached") :][:3]
+    parallel, job = shell_of_page()
     there = parallel.split("'")[1].replace("{/}", "${segment##*/}").replace("{}", "$segment")
     task = "SLURM_ARRAY_TASK_ID=$((task += 1)) sh judge.job"
     by_parallel = [f"for segment in archived/segment-*; do {there}; done"]
     by_tasks = ["ls archived/segment-* > segments", f"for segment in archived/segment-*; do {task}; done"]
-    return ["\n".join([made, *way, *join]) for way in ([processes], by_parallel, by_tasks)], job
+    return ["\n".join([made, *way, join]) for way in ([processes], by_parallel, by_tasks)], job
 
 
 def of_commands(judge, script, job, case):
-    """Checks and joins segments by the page's commands. A first one without a base gets the line of the base before all entries."""
+    """Checks and joins segments by the page's commands."""
     with scratch() as room:
         for made in ("archived", "crates/judge/out"):
             (room / made).mkdir(parents=True)
@@ -178,20 +260,11 @@ def of_commands(judge, script, job, case):
         (room / "judge.job").write_text(job)
         (room / "archived/archive.toml").write_bytes(case.settings)
         for index, text in enumerate(texts_of(case)):
-            bare = index == 0 and not text.startswith(b"pool-journal")
-            (room / f"archived/segment-{index:04}").write_bytes(EMPTY * bare + text)
+            (room / f"archived/segment-{index:04}").write_bytes(text)
         done = run("bash", "-c", script, cwd=room)
     wanted = b"one legal journal\n" if is_legal(case) else b"not legal from archived/segment-"
     is_right = (done.returncode == 0) == is_legal(case) and done.stdout.startswith(wanted)
     return [f"{case.name}, by the commands of the page: legal is {is_legal(case)}, {done}"] * (not is_right)
-
-
-def of_segments(judge, name, settings, segments):
-    """What differs where segments are judged with the default settings."""
-    legal = verdict_of_segments(settings_of(""), segments).startswith(b"legal")
-    with scratch() as room:
-        joined = are_joined(segments, reached_by(judge, settings, write_files(room, dict(enumerate(segments))), Chance(len(name))))
-    return [f"{name}: legal is {legal}, joined {joined}"] * (joined != legal)
 
 
 # Files by their names: what `judge FILE segment` prints of those that give no settings, ..
@@ -212,6 +285,7 @@ SEGMENTS = {
     "long": (b"a" * 300, "line 1: line too long", 3),
     "cut": (THREE[0][:-1], f"line {THREE[0].count(10)}: truncated", 3),
 }
+USES = ["FOLDER", "--held FOLDER", "SETTINGS SEGMENT", "--join FOLDER REACHED", "--help", "--version"]
 WRONG = b"judge: wrong arguments, try judge --help\n"
 
 
@@ -226,8 +300,9 @@ def uses(room, settings):
     lost, good = f"{room}/none", f"{room}/gone"
     yield from (([f"{room}/{name}", good], line(f"{room}/{name}", told), 3) for name, (_, told) in SETTINGS.items())
     yield from (([settings, f"{room}/{name}"], line(f"{room}/{name}", told), status) for name, (_, told, status) in SEGMENTS.items())
-    yield from ((words, WRONG, 2) for words in ([], [settings], [settings, good, good], ["help"], ["--version", "--help", "-h"]))
-    for words, opened in ([lost, good], lost), ([settings, lost], lost), (["--help", good], "--help"):
+    wrong = [], [settings, good, good], ["--version", "--help", "-h"], ["--help", good], ["-x", room], ["--join", room], ["--held"], ["--held", room, room]
+    yield from ((words, WRONG, 2) for words in wrong)
+    for words, opened in ([lost, good], lost), ([settings, lost], lost), (["help"], "help"), (["--", "--help"], "--help"), ([settings], settings):
         yield words, f"judge: cannot open {opened}\n".encode(), 3
     yield [room, good], line(room, "read failed"), 3
     yield [settings, room], line(room, "read failed"), 3
@@ -242,8 +317,8 @@ def of_uses(judge, settings):
     for word in "--help", "-h":
         # The uses of the program, each in some words.
         output, *others = ended(run(judge, word))
-        named = [line.partition("  ")[0] for line in output.decode().splitlines() if line.startswith("judge ")]
-        wrong += [f"{word}: {output}"] * ((named, others) != (["judge SETTINGS SEGMENT", "judge --help", "judge --version"], [b"", 0]))
+        named = [line.partition("  ")[0].removeprefix("judge ") for line in output.decode().splitlines() if line.startswith("judge ")]
+        wrong += [f"{word}: {output}"] * ((named, others) != (USES, [b"", 0]))
     return wrong
 
 
@@ -254,18 +329,24 @@ def of_pipe(judge, settings):
     return [told for text in texts for told in differing("a segment from a pipe", wanted, run(judge, settings, "/dev/stdin", input=text))]
 
 
-def of_wrong_answer(judge):
-    """What differs where the page checks each segment of a folder with its own settings, and the second of three has a wrong answer."""
-    texts = [THREE[0], THREE[1].replace(b"add = make 1", b"add = make 2"), THREE[2]]
-    join = scripts_of_page()[0][0].partition("\nprintf 'pool-journal")
+def of_damaged(judge):
+    """What was printed of a segment, and is not one base; or is none, as where the segment is not legal."""
+    found = []
     with scratch() as room:
-        write_files(room, {"settings.toml": b""} | {f"segment-{at:020}": text for at, text in zip((0, 4, 7), texts)})
         (room / "reached").mkdir()
-        (room / "judge").symlink_to(pathlib.Path(judge).resolve())
-        script = shell_of_page()[-1] + (join[1] + join[2]).replace("archived/", "")
-        done = run("sh", "-c", f"PATH=.:$PATH; {script}", cwd=room)
-    wanted = b"not legal from segment-00000000000000000004 on\n", 1
-    return [f"a wrong answer, with the settings of each segment: {done}"] * ((done.stdout, done.returncode) != wanted)
+        paths = write_files(room, {f"segment-{at}": text for at, text in zip((0, 4, 7), THREE)})
+        bases = [base_lines(text) for text in THREE[1:]] + [EMPTY]
+        for text, wanted in (
+            (bases[0][:-1], line_of(paths[0], "what it reached is not one base")),
+            (bases[0] + b"\n", line_of(paths[0], "what it reached is not one base")),
+            (b"", (b"not legal from %s on\n" % bytes(paths[0]), b"", 1)),
+            (EMPTY, (b"not legal from %s on\n" % bytes(paths[1]), b"", 1)),
+            (bases[0], (b"one legal journal\n", b"", 0)),
+        ):
+            write_files(room / "reached", dict(zip((path.name for path in paths), [text, *bases[1:]])))
+            found += differing(f"joined after {text}", wanted, run(judge, "--join", room, room / "reached"))
+        write_files(room, {"segment-0": b"pool-journal 2 0\n"})
+        return found + differing("a base of one line", line_of(paths[0], "not a base"), run(judge, "--join", room, room / "reached"))
 
 
 def of_refused(command, wanted, library, mark):
@@ -275,25 +356,42 @@ def of_refused(command, wanted, library, mark):
         is_whole = ended(done) == (wanted, b"", 0)
         is_refused = number and (done.stdout, done.returncode) == (b"", 3) and re.fullmatch(rb"judge: .*out of memory\n", done.stderr)
         if not is_refused and (not is_whole or number == 1):
-            found.append(f"{command[2]}, allocation {number}: {done}")
-    return found if number else [f"{command[2]}: no allocation"]
+            found.append(f"{command[1:]}, allocation {number}: {done}")
+    return found if number else [f"{command[1:]}: no allocation"]
+
+
+def refused(judge, room):
+    """Uses of a folder, each with what it prints."""
+    first, second = THREE[0], THREE[1]
+    (room / "starts/first").mkdir(parents=True)
+    (room / "reached").mkdir()
+    start = {"settings.toml": b"maxTotal = 2\n", "settings-4.toml": b"", "segment-0": first, "segment-4": second, "callers.txt": b"0 main\n1 other\n"}
+    write_files(room / "starts/first", start | {"start.toml": b'zero = "1970-01-01T00:00:00Z"\n'})
+    write_files(room / "reached", {"segment-0": base_lines(second), "segment-4": base_lines(THREE[2])})
+    yield [judge, room / "starts"], b"first: legal 7\n"
+    yield [judge, "--join", room / "starts/first", room / "reached"], b"one legal journal\n"
+    rows = b"object 0: made ready by main since 1970-01-01T00:00:00.021Z\nobject 1: made by other since 1970-01-01T00:00:00.022Z\n"
+    yield [judge, "--held", room / "starts"], rows
 
 
 def trials(judge, pool, cases, defaults, room):
     """All trials: each a function and its arguments."""
     chance, (scripts, job), (library, marks) = Chance(5), scripts_of_page(), (preloaded("refuse", room), itertools.count())
     for number, (case, settings, paths) in enumerate(cases):
-        yield of_case, judge, case, settings, paths, chance
+        yield of_case, judge, case, chance
         if is_legal(case) and sum(text.count(b" = ") for text in texts_of(case)) > 1:
             yield of_change, judge, pool, case, 1 - number % 2
         yield from ((of_commands, judge, script, job, case) for script in scripts)
     for name, segments in damaged_segments():
-        yield of_segments, judge, name, defaults, segments
-    yield from [(of_beside, pool), (of_uses, judge, defaults), (of_pipe, judge, defaults), (of_wrong_answer, judge)]
+        yield of_segments, judge, name, b"", segments, verdict_of_segments(settings_of(""), segments), Chance(len(name))
+    yield from [(of_later, judge), (of_starts, judge), (of_held, judge), (of_uses, judge, defaults), (of_pipe, judge, defaults), (of_damaged, judge)]
     # The segments that another one follows, of the legal journals among the first twelve.
     for case, settings, paths in cases[:12]:
         for path, following in zip(paths, texts_of(case)[1:]) if is_legal(case) else ():
             yield of_refused, [judge, settings, path], base_lines(following), library, room / f"refused-{next(marks)}"
+    (room / "folders").mkdir()
+    for command, wanted in refused(judge, room / "folders"):
+        yield of_refused, command, wanted, library, room / f"refused-{next(marks)}"
 
 
 def main(judge, pool, *words):

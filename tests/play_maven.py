@@ -18,6 +18,7 @@ import subprocess
 import sys
 import zipfile
 
+from play_drop_in import SHARED
 from play_java import play_with_java
 from playing import NAMED, TOP, has, run, scratch
 
@@ -111,7 +112,7 @@ def user(maven, folder):
     """What is wanted of a project that has the pool in place of Commons Pool 2, and what it does."""
     sources = folder / "user/src/main/java"
     sources.mkdir(parents=True)
-    for source in TOP / "tests/drop_in/DropIn.java", TOP / "tests/java/Expectations.java":
+    for source in TOP / "tests/drop_in/DropIn.java", *(TOP / f"tests/java/{name}.java" for name in SHARED):
         shutil.copy(source, sources)
     (folder / "user/pom.xml").write_text(USER.format(dependencies=dependencies(), release=java.RELEASE))
     words = ["-Dexec.mainClass=DropIn", f"-Dexec.args=zuphinka-commons-pool2-{version()}.jar"]

@@ -31,7 +31,7 @@ import time
 import urllib.request
 
 import openmetrics
-from playing import NO_CARGO, TOP, has, play_checks, skip, stored_journal
+from playing import NO_CARGO, TOP, has, play_checks, skip, start_of, stored_journal
 from play_library import compiled
 from postgres_server import ROLE, SHARED, TABLES, WITH_PARENT, WRONG, Server, end_by, free_port, sessions_of
 
@@ -273,7 +273,7 @@ def counts_of(lines):
 def journal(name, pool, folder, told, log, used):
     """What is wanted of the journal, and what came of it."""
     yield f"{name}: its journal", *stored_journal(pool, folder)
-    asked, freed, made = counts_of(line for segment in folder.glob("segment-*") for line in segment.read_text().splitlines())
+    asked, freed, made = counts_of(line for segment in start_of(folder).glob("segment-*") for line in segment.read_text().splitlines())
     yield f"{name}: the counts of its journal", (asked, freed), (int(told["created"]), int(told["destroyed"]))
     least, most = sessions_of(log)
     print(f"{name}: {made} connections by the journal; by the server {len(least | used)} to {len(most)}; {asked - made} could not be made")

@@ -64,7 +64,7 @@ DEFAULT_ANSWERS = b"".join(
 TOLD_PATHS = {
     " defaults.toml": " defaults.toml", "defaults.toml ": "defaults.toml ", "": "", " ": " ", "no\nsuch file": "no\\nsuch file",
     "\x1b[2J": "\\u001B[2J", "a\\b": "a\\b", "a\\b\n": "a\\\\b\\n", "\t\r\x08\x0c\x01\x1f\x7f": "\\t\\r\\b\\f\\u0001\\u001F\\u007F",
-    "pool: out of memory\npool: x": "pool: out of memory\\npool: x", "\x85\u2028": "\x85\u2028", "\"'": "\"'",
+    "pool: out of memory\npool: x": "pool: out of memory\\npool: x", "\x85\x9f\xa0\u2028": "\\u0085\\u009F\xa0\u2028", "\xa0\\": "\xa0\\", "\"'": "\"'",
 }
 NOBODY = 65534
 WRONG_ARGUMENTS = [
@@ -133,8 +133,8 @@ def good_runs():
     yield ["check", "defaults.toml", "plain.journal", "--"], told(b"legal 4\n")
     yield ["run", "/dev/stdin", "plain.script"], told(journal), {"input": b"maxTotal = 1\n"}
     yield ["check", "/dev/stdin", "plain.journal"], told(b"legal 4\n"), {"input": b"maxTotal = 1\n"}
-    # The settings beside a segment hold for it.
-    yield ["check", "two_entries.toml", "segment-0"], told(b"legal 4\n")
+    # The settings are those of the command, whatever is beside a segment.
+    yield ["check", "two_entries.toml", "segment-0"], fault("line 1: journal full")
     yield ["run", "small.toml", "/dev/stdin"], told(journal), {"input": script}
     # The settings that the file says are those that hold.
     for settings in ["small.toml", "longest.toml"]:

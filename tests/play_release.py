@@ -24,7 +24,7 @@ import tarfile
 import playing
 from play_java import BANK, EXAMPLE_JARS, java, portable
 from play_library import PLAIN_LIFE, TOP
-from playing import NO_CARGO, ended, has, play_checks, scratch, skip, stored_journal
+from playing import NO_CARGO, ended, has, play_checks, scratch, skip, start_of, stored_journal
 
 import sources
 from contest import runs_cargo
@@ -167,8 +167,9 @@ def commands(top):
     yield "what the Rust example tells", True, report is not None or faults
     yield "the journal of the Rust example", *stored_journal(top / "bin/pool", top / "journal")
     yield blocks[1].strip(), 0, shell(blocks[1].strip(), top)[2]
-    segment = min((top / "journal").glob("segment-*"))
-    done = run(top / "bin/judge", "journal/settings.toml", segment, folder=top)
+    start = start_of(top / "journal")
+    segment = min(start.glob("segment-*"))
+    done = run(top / "bin/judge", start / "settings.toml", segment, folder=top)
     yield "judge of a segment", (b"", 0, True), (done.stderr, done.returncode, done.stdout != b"")
 
 

@@ -8,6 +8,7 @@
   of them must find it legal. It is cut at three places besides, and one of the segments is left out, repeated or exchanged with the next: the
   verdict must be that of tests/pool_model.py.
 - Three segments are damaged: in each place a byte is changed, dropped or doubled; the verdict must be the model's.
+- `check` over a thousand segments must find them legal where 256 files may be open at a time.
 - `check` over a thousand segments must take no more memory on one processor than over the longest of them alone, with a tenth and 512 KiB
   for the files' names and what differs from run to run; and on all, for each of the files that are judged at once, no more than
   what the longest takes beyond the program itself, and 512 KiB.
@@ -31,6 +32,8 @@ MOST_SEGMENTS = 400
 ON_ONE = "/usr/bin/taskset", "--cpu-list", str(min(os.sched_getaffinity(0)))
 # How many files the program judges side by side for each processor.
 FILES_PER_PROCESSOR = 4
+# The base before all entries.
+EMPTY = b"pool-journal 2 0 0 open none 0 0 0 0\n"
 THREE = [
     b"""pool-journal 2 0 0 open none 0 0 0 0
 0 10 borrow 10 = make 0
@@ -108,18 +111,20 @@ def damaged_segments():
 
 
 def of_memory(pool, settings):
-    """What differs in the memory of a thousand segments of 50 entries, and of the first of them alone."""
+    """What differs in the memory of a thousand segments of 50 entries, and of the first of them alone; and where few files may be open."""
     read = settings_of("")
     segments = cut_at(read, journal_by_chance(read, 50_000), set(range(50, 50_000, 50)))
     with scratch() as room:
         none, *paths = write_files(room, {"none": b"", **dict(enumerate(segments))})
+        few = run("sh", "-c", 'ulimit -n 256; exec "$@"', "sh", pool, "check", settings, *paths)
+        found = differing("a thousand segments of which few may be open", (b"legal 50000\n", b"", 0), few)
         (_, least), (_, longest) = (peak(room, pool, "check", settings, path) for path in (none, paths[0]))
         (alone, in_turn), (together, at_once) = (peak(room, *words, pool, "check", settings, *paths) for words in (ON_ONE, ()))
     files_at_once = FILES_PER_PROCESSOR * len(os.sched_getaffinity(0))
     most = least + files_at_once * (longest - least + 512)
     if alone.returncode or together.returncode or in_turn > longest * 1.1 + 512 or at_once > most:
-        return [f"memory: {len(segments)} segments took {in_turn} KiB in turn and {at_once} at once; one took {longest}, none {least}"]
-    return []
+        found.append(f"memory: {len(segments)} segments took {in_turn} KiB in turn and {at_once} at once; one took {longest}, none {least}")
+    return found
 
 
 def play_trials(trials):

@@ -7,17 +7,20 @@ numbers about each power of 2 for texts and keys. What must be answered is known
 tests/pool_model.py. Evictions must examine idle objects in the order in which they were parked, round after round, each run going on where the last
 one stopped; clears must destroy them in that order, each once.
 
+Reclaims that find nothing must not walk over all lent objects: valgrind counts the instructions of scripts of two lengths, with as many objects.
+
 Prints each case that differs, and in the end the line 'N passed, M failed'.
 """
 
 import pathlib
+import re
 import sys
 
 from argument_rules import statistics
 from case_files import script_of
 from many_objects import NO_LIMITS, segments_of
 from play_program import many_workers
-from playing import differing, run, scratch, side_by_side, tell, write_files
+from playing import differing, has, run, scratch, side_by_side, tell, write_files
 from pool_model import settings_of
 
 LONGEST_TEXT = 1_048_576
@@ -30,6 +33,8 @@ TESTS_OF_A_RUN = {1: 1, 7: 7, -1: 1_000, -3: 334, 2_147_483_647: 1_000, -2_147_4
 CLEARED = [1_000, 100_000]
 # The objects of a base.
 RECORDS = [2, 9, 1_025, 10_000, 100_000]
+# Lent objects that are used while others are reclaimed, and the most by which the instructions may grow.
+RECLAIMED, MOST_GROWTH = (500, 2_000), 8
 # Workers, and rounds of each.
 LOADS = [(1, 1), (1, 16_385), (1, 300_000), (2, 65_537), (4, 40_000), (7, 2_049), (100, 257), (1_023, 20)]
 
@@ -143,6 +148,26 @@ def keys(folder):
         yield f"a key of {length} bytes in the table", ["check", "a.toml", "/dev/null"], settings_fault(b"unknown key abandoned." + b"k" * length)
 
 
+def instructions_of_reclaims(pool, folder, objects):
+    """The instructions of a script in which all objects are lent, then each is used in turn, and after each use those are reclaimed that were used by no
+    one for as long as two rounds take."""
+    write_files(folder, {"a.toml": b"maxTotal = -1\n[abandoned]\nremoveAbandonedOnMaintenance = true\nremoveAbandonedTimeoutMillis = %d\n" % (objects + 1)})
+    lent = (f"0 {id} borrow {id}\n0 {id} ready {id} good\n" for id in range(objects))
+    used = (f"0 {at} use {at % objects}\n0 {at} reclaim maintain\n" for at in range(objects, 3 * objects))
+    write_files(folder, {"script": "".join([*lent, *used]).encode()})
+    done = run("valgrind", "--tool=callgrind", "--callgrind-out-file=/dev/null", pool, "run", "a.toml", "script", cwd=folder)
+    if done.returncode or done.stdout.count(b" reclaim maintain = count 0\n") != 2 * objects:
+        raise ValueError(done.stderr.decode(errors="replace"))
+    return int(re.search(rb"Collected : (\d+)", done.stderr)[1])
+
+
+def reclaim_differences(pool):
+    """Why reclaims walk: with four times as many objects and lines a script takes 16 times as many instructions then, and otherwise 4 to 5."""
+    with scratch() as folder:
+        few, many = (instructions_of_reclaims(pool, folder, objects) for objects in RECLAIMED)
+    return [] if many < MOST_GROWTH * few else [f"reclaims: {few} instructions with {RECLAIMED[0]} objects, {many} with {RECLAIMED[1]}"]
+
+
 def played(pool, part):
     """What differs in each run of a part."""
     with scratch() as folder:
@@ -159,6 +184,7 @@ def load_differences(pool, workers, rounds):
 def main(pool):
     pool = pathlib.Path(pool).resolve()
     found = [found for part in side_by_side(lambda part: played(pool, part), [lines, objects, evictions, clears, bases, texts, keys]) for found in part]
+    found += [reclaim_differences(pool)] if has("the work of reclaims", "valgrind") else []
     return tell([*found, *(load_differences(pool, *load) for load in LOADS)])
 
 

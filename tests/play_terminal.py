@@ -3,7 +3,7 @@
     play_terminal.py POOL
 
 POOL is the program. Standard error is a terminal of the test's own, or a pipe. It judges a journal that comes slowly, from standard
-input; and it is used with wrong arguments and with files that have errors. At a terminal the lines of an error must be those that
+input; and it is used with wrong arguments, with files that have errors, and with several files of which one is not legal. At a terminal the lines of an error must be those that
 crates/pool_tasks/specs/Hints.antt says, and to a pipe the first of them.
 
 Prints each case that differs, and in the end the line 'N passed, M failed'.
@@ -33,6 +33,7 @@ FILES = {
     "key.toml": b"maxTotal = 1\nmaxTotl = 8\n", "bytes.toml": b"lifo = true # \xff\n", "script": b"0 0 borrow 0\n",
     "journal": PLAIN_LIFE, "segment": SEGMENT, "joined": PLAIN_LIFE + SEGMENT, "returns": PLAIN_LIFE.replace(b"\n", b"\r\n"),
     "returns.toml": b"maxTotal = 1\r\nminIdle =\r\n", "headed": SEGMENT.partition(b"\n")[0] + b"\n", "two\nlines": b"x\n", "worse": SEGMENT + b"x\n", "long": b"a" * 300, "number": b"0 1 borrow 01 = wait\n", "cut": PLAIN_LIFE[:-1],
+    "wrong": PLAIN_LIFE.replace(b"check", b"gone"),
 }
 USES = "try pool --help"
 SWAPPED = "this is a script or a journal: SETTINGS comes first"
@@ -69,6 +70,11 @@ HINTS = [
     ("stats folder", ["read failed", "in folder"]),
     ("run two.toml script", ["line 1: journal full", "in script", LIMIT]),
     ("load two.toml 1 1", ["journal full", LIMIT]),
+]
+# Files of a check, its verdict, and the file that a terminal is told of: that which is not legal, of several.
+VERDICTS = [
+    ("journal segment", "legal 5", None), ("journal", "legal 4", None), ("wrong", "illegal 2 check", None), ("wrong segment", "illegal 2 check", "wrong"),
+    ("segment journal", "illegal base 0", "segment"), ("journal segment segment", "illegal base 2", "segment"),
 ]
 
 
@@ -110,6 +116,16 @@ def hint_cases(pool, folder):
         yield f"{words}, to a pipe", f"{lines[0]}\n".encode(), ended(command, folder, False)[1]
 
 
+def verdict_cases(pool, folder):
+    """Each check, what it must print, also on standard error, which is a terminal or a pipe, and what it prints."""
+    write_files(folder, FILES)
+    for words, verdict, wrong in VERDICTS:
+        command, status = [pool, "check", "defaults.toml", *words.split(" ")], int(not verdict.startswith("legal"))
+        told = f"  in {wrong}\r\n".encode() if wrong else b""
+        yield f"check {words}, at a terminal", (f"{verdict}\n".encode(), told, status), ended(command, folder, True)
+        yield f"check {words}, to a pipe", (f"{verdict}\n".encode(), b"", status), ended(command, folder, False)
+
+
 def progress_cases(pool, folder):
     """Journals that come slowly, or at once, what is wanted of each and what it is: standard output, the status, and on standard error what tells how
     far it is, and then a fault."""
@@ -131,7 +147,7 @@ def progress_cases(pool, folder):
 
 def checks(pool):
     pool = str(pathlib.Path(pool).resolve())
-    for cases in progress_cases, hint_cases:
+    for cases in progress_cases, hint_cases, verdict_cases:
         with scratch() as made:
             yield from cases(pool, made)
 

@@ -115,9 +115,16 @@ def differing(name, wanted, done):
     return [f"{name}: {kind}: wanted {want!r:.{MOST_PRINTED}}, got {have!r:.{MOST_PRINTED}}" for kind, want, have in found]
 
 
+def start_of(folder):
+    """The folder of the only start of a pool below a folder, or this one if it has the settings itself."""
+    starts = [] if (folder / "settings.toml").exists() else sorted(folder.glob("*/settings.toml"))
+    return starts[0].parent if len(starts) == 1 else folder
+
+
 def stored_journal(pool, folder):
-    """What `pool check` is to say of the segments that are stored in a folder, by their entries and the settings there, and what it says. There are
-    entries."""
+    """What `pool check` is to say of the segments that are stored in a folder, or below it by one start of a pool, by their entries and the settings
+    there, and what it says. There are entries."""
+    folder = start_of(folder)
     segments = sorted(folder.glob("segment-*"))
     entries = sum(path.read_bytes().count(b" = ") for path in segments)
     done = run(pool, "check", folder / "settings.toml", *segments)

@@ -9,7 +9,7 @@ and AR, or ar, makes the archive; either may have words after it, as in a Makefi
     include/zuphinka.h, include/zuphinka_pool.h
     lib/libzuphinka.a             the library, what it allocates by, and the pool for threads
     lib/libzuphinka.so.VERSION    the same as a shared library, which exports the functions of the headers and nothing else
-    lib/libzuphinka.so.MAJOR      a link to it, by the name that programs load
+    lib/libzuphinka.so.0.MINOR    a link to it, by the name that programs load: that of the versions with the same interface (from 1.0.0: .so.MAJOR)
     lib/libzuphinka.so            a link to that, by the name that `-lzuphinka` finds
     lib/pkgconfig/zuphinka.pc, lib/pkgconfig/zuphinka-static.pc
     share/zuphinka/               the source of that pool: zuphinka_pool.c, and the headers that it alone includes
@@ -21,9 +21,9 @@ so that a program is built with the archive by the first command, and with the s
 
 Under a folder of the system, such as /usr/local, run ldconfig afterwards, so that programs find the shared library.
 
-With --destdir the files are put below that folder, and name the prefix without it. What is installed already is replaced. Programs that have it
-loaded keep what they have. Prints each file that it installs. The status is 1 if a file is missing or a command fails; what was installed before may
-then be in part new.
+With --destdir the files are put below that folder, and name the prefix without it. What is installed already is replaced, links too. Programs that have
+it loaded keep what they have. All may read what is installed, whatever the umask. Prints each file that it installs. The status is 1 if a file is
+missing, a command fails or a folder can't be written; what was installed before may then be in part new.
 """
 
 import argparse
@@ -70,6 +70,12 @@ def heap_of_kit():
 
 def version():
     return (TOP / "VERSION").read_text().strip()
+
+
+def loaded_name():
+    """The name by which programs load the shared library: versions that share it have one interface."""
+    major, minor, _ = version().split(".")
+    return f"libzuphinka.so.{major}" if int(major) else f"libzuphinka.so.0.{minor}"
 
 
 def command(variable, default):
@@ -125,31 +131,41 @@ def put(file, folder):
     return there
 
 
-def install_libraries(lib, library, heap):
-    """Installs the archive and the shared library with its links, and gives the files."""
-    names = [f"libzuphinka.so.{version()}", f"libzuphinka.so.{version().partition('.')[0]}", "libzuphinka.so"]
-    with tempfile.TemporaryDirectory() as name:
-        archive, shared, loaded, found = (pathlib.Path(name) / file for file in ["libzuphinka.a", *names])
-        merge(archive, library, heap)
-        link(shared, archive, loaded.name)
-        loaded.symlink_to(shared.name)
-        found.symlink_to(loaded.name)
-        return [put(file, lib) for file in (archive, shared, loaded, found)]
+def make_folder(folder):
+    """Makes a folder that all may read, with those above it, unless it is there."""
+    if not folder.is_dir():
+        make_folder(folder.parent)
+        folder.mkdir()
+        folder.chmod(0o755)
+    return folder
+
+
+def build_libraries(folder, library, heap):
+    """Makes the archive and the shared library with its links in a folder, and gives the files."""
+    names = ["libzuphinka.a", f"libzuphinka.so.{version()}", loaded_name(), "libzuphinka.so"]
+    archive, shared, loaded, found = files = [folder / name for name in names]
+    merge(archive, library, heap)
+    link(shared, archive, loaded.name)
+    loaded.symlink_to(shared.name)
+    found.symlink_to(loaded.name)
+    return files
+
+
+def describe(folder, named):
+    """Makes the files for pkg-config in a folder, and gives them."""
+    files = [folder / f"{name}.pc" for name in LINKED]
+    for file in files:
+        file.write_text(PKG_CONFIG.format(prefix=named, name=file.stem, version=version(), linked=LINKED[file.stem]))
+    return files
 
 
 def install(prefix, named, library, heap):
     """Installs all of it under a prefix, which pkg-config knows by this name, and gives the files."""
-    include, lib, share = prefix / "include", prefix / "lib", prefix / "share/zuphinka"
-    for folder in include, lib / "pkgconfig", share:
-        folder.mkdir(parents=True, exist_ok=True)
-    installed = install_libraries(lib, library, heap)
-    installed += [put(header, include) for header in HEADERS] + [put(source, share) for source in POOL_SOURCES]
-    for name, linked in LINKED.items():
-        description = lib / f"pkgconfig/{name}.pc"
-        description.write_text(PKG_CONFIG.format(prefix=named, name=name, version=version(), linked=linked))
-        description.chmod(0o644)
-        installed.append(description)
-    return installed
+    folders = [prefix / name for name in ("include", "lib", "lib/pkgconfig", "share/zuphinka")]
+    with tempfile.TemporaryDirectory() as name:
+        built = pathlib.Path(name)
+        parts = [HEADERS, build_libraries(built, library, heap), describe(built, named), POOL_SOURCES]
+        return [put(file, make_folder(folder)) for folder, files in zip(folders, parts) for file in files]
 
 
 def main():
@@ -165,7 +181,11 @@ def main():
             sys.exit(f"{file}: no such file; python3 tools/build.py zuphinka builds the library")
     prefix = pathlib.Path(os.path.abspath(given.prefix))
     place = pathlib.Path(given.destdir).resolve() / prefix.relative_to("/") if given.destdir else prefix
-    print(*install(place, prefix, given.library, heap), sep="\n")
+    try:
+        installed = install(place, prefix, given.library, heap)
+    except OSError as error:
+        sys.exit(f"{error.filename2 or error.filename or place}: {error.strerror}")
+    print(*installed, sep="\n")
 
 
 if __name__ == "__main__":

@@ -20,10 +20,7 @@ PROOFS = Part("proofs", "every proof, every test in Rattle, and that each mutant
 PARTS = (
     Part("mutants", "each function is rejected in which an edit makes one of several mistakes",
          "python3 tests/play_mutants.py", libraries_of(*sources.with_mistakes())),
-    Part("copy", "a copy of the example server, made by the commands of its README, is proved",
-         "python3 tests/play_copy.py", libraries_of("example_server")),
     Part("damaged", "damaged journals and segments", "python3 tests/play_damaged.py {pool}"),
-    Part("try", "./try: words, streams, statuses, and a run of the program without proofs", "python3 tests/play_try.py"),
     Part("segments", "segments that are checked together, and the memory of that", "python3 tests/play_segments.py {pool} tests/cases"),
     Part("refused-uses", "each use of the program, with each allocation failing in turn", "python3 tests/refuse_uses.py {pool}"),
     Part("refused-lives", "whole lives of pools, with each allocation failing in turn",
@@ -40,21 +37,21 @@ PARTS = (
          "the pool for Java: its calls, also with failing allocations, eight threads that call at random, its journals, examples and documentation",
          "python3 tests/play_java.py {zuphinka} {pool} {journal_picture} {judge}"),
     Part("drop-in", "the pool for Java in place of Commons Pool 2: its members, settings that change, and DBCP2's BasicDataSource over it",
-         "python3 tests/play_drop_in.py {zuphinka} {pool} {judge}"),
+         "python3 tests/play_drop_in.py {zuphinka} {judge}"),
     Part("maven", "the jars of the pool for Java that Maven builds", "python3 tests/play_maven.py {zuphinka}"),
     Part("java-random", "six threads that call at random over a factory that fails, on the pool for Java; what Commons Pool 2 does there is shown",
          "python3 tests/play_java_random.py {zuphinka}"),
     Part("commons-random", "random calls of one thread, each made of the pool for Java, or in place of Commons Pool 2, and of the library",
          "python3 tests/commons_random.py {zuphinka}"),
     Part("commons-pool", "the tests of Commons Pool 2, unchanged, over the pool for Java",
-         "python3 tests/play_commons_pool.py {zuphinka} {pool} {judge}", fetch="python3 tests/play_commons_pool.py --fetch"),
+         "python3 tests/play_commons_pool.py {zuphinka} {judge}", fetch="python3 tests/play_commons_pool.py --fetch"),
     Part("commands", "the commands, journals and pictures that the pages show, and the examples of the settings",
          "python3 tests/play_commands.py {pool} {journal_picture}", ("judge", "example_archive", "zuphinka"), folders=CARGO),
     Part("postgres", "the examples over PostgreSQL, in Rust, Java and C, while the server fails",
          "python3 tests/play_postgres.py {zuphinka} {pool}", folders=CARGO),
     Part("c-pool", "the C pool for threads, also with failing allocations", "python3 tests/play_c_pool.py {zuphinka} {pool} {judge}"),
-    Part("benchmarks", "bench/peers, bench/longest_waits, bench/database and bench/soak notice what is wrong",
-         "python3 tests/play_bench.py {pool}", ("zuphinka",), folders=CARGO),
+    Part("tools", "a use of ./check, ./try, tools/build.py and the benchmarks, and a wrong one",
+         "python3 tests/play_tools.py {pool} {zuphinka}"),
     Part("soak", "ten seconds of bench/soak", "python3 bench/soak --seconds 10 --pool {pool}", ("zuphinka",), folders=CARGO),
     Part("calls", "calls of many callers, event by event at random, against a model of their rules", "python3 tests/play_calls.py {test_calls}"),
     Part("killed", "runs of the program that are killed", "python3 tests/play_killed.py {pool}"),
@@ -69,8 +66,6 @@ PARTS = (
          "python3 tests/play_archive.py {example_archive} crates/example_archive/stdout {pool}"),
     Part("bank", "the example over SQLite, its accounts and its journal", "python3 tests/play_bank.py {example_bank} {pool} {journal_picture} 3"),
     Part("terminal", "progress and hints at a terminal", "python3 tests/play_terminal.py {pool}"),
-    Part("builds", "./pool builds exactly what changed", "python3 tests/play_build.py"),
-    Part("parts", "./check itself, on a small repository", "python3 tests/play_check.py"),
     Part("metrics", "the reader of the pools' metrics refuses what the OpenMetrics format forbids", "python3 tests/openmetrics.py"),
     Part("names", "what the pages name is there, and the code that they show is compiled code", "python3 tests/check_names.py"),
     Part("tables", "the tables of the pages agree with the sources, and that of phases with all journals of the cases", "python3 tests/check_tables.py"),
@@ -91,7 +86,7 @@ PARTS = (
 QUICK_ALONE = (
     Part("unproved", "worked cases on the program without its proofs", "python3 tests/play_unproved.py tests/cases/worked"),
     Part("rust-model", "the Rust crate, with a model of the pool in place of the program",
-         "python3 tests/check_rust.py tests/model_program.py", ("zuphinka",), folders=CARGO),
+         "python3 tests/check_rust.py tests/model_program.py tests/model_program.py", ("zuphinka",), folders=CARGO),
 )
 # All parts of `./check quick`, which needs no proof and takes less than five minutes.
 QUICK = ("unproved", "rust-model", "case-files", "metrics", "names", "tables")
@@ -100,24 +95,23 @@ JARS, CRATES = "/usr/share/java", "/usr/share/cargo/registry"
 PLUGINS = "/usr/share/maven-repo/org/apache/maven/plugins"
 # Maven's plugins, each in a package of its own, with the versions that it looks for.
 MAVEN_PLUGINS = {"antrun": "3.1.0", "compiler": "3.10.1", "install": "2.4", "jar": "3.3.0", "javadoc": "3.4.1", "resources": "2.6", "source": "3.2.1"}
-IN_JAVA = ("java", "drop-in", "maven", "java-random", "commons-random", "commons-pool", "benchmarks", "release", "postgres")
-OVER_POSTGRES = ("postgres", "benchmarks")
+IN_JAVA = ("java", "drop-in", "maven", "java-random", "commons-random", "commons-pool", "release", "postgres")
+OVER_POSTGRES = ("postgres",)
 
 PACKAGES = (
     Package("gcc", "cc", variable="CC"),
     Package("libc6-dev", "/usr/include/stdio.h"),
     Package("g++", "g++", ("c-programs", "c-pool"), "CXX"),
     Package("clang", "clang++", ("c-programs", "c-pool"), "CXX"),
-    Package("valgrind", "valgrind", ("c-programs", "c-crowd", "c-many", "c-pool")),
+    Package("valgrind", "valgrind", ("sizes", "c-programs", "c-crowd", "c-many", "c-pool")),
     Package("make", "make", ("c-install", "commands")),
     Package("pkgconf", "pkg-config", ("c-install", "release")),
     # The cargo of Debian 12's package of that name is older than the Rust crate allows.
-    Package("cargo-web", "cargo", ("rust", "rust-model", "commands", "benchmarks", "soak", "release", "postgres")),
+    Package("cargo-web", "cargo", ("rust", "rust-model", "commands", "soak", "release", "postgres")),
     Package("librust-tokio-dev", f"{CRATES}/tokio-[0-9]*", ("rust", "rust-model")),
-    Package("librust-r2d2-dev", f"{CRATES}/r2d2-[0-9]*", ("benchmarks",)),
     Package("default-jdk-headless", "javac", IN_JAVA, "JAVA_HOME"),
     Package("libcommons-pool2-java", f"{JARS}/commons-pool2.jar", IN_JAVA, "COMMONS_POOL2"),
-    Package("libcommons-dbcp2-java", f"{JARS}/commons-dbcp2.jar", ("java", "drop-in", "maven", "release", "postgres", "benchmarks")),
+    Package("libcommons-dbcp2-java", f"{JARS}/commons-dbcp2.jar", ("java", "drop-in", "maven", "release", "postgres")),
     Package("libcommons-logging-java", f"{JARS}/commons-logging.jar", ("drop-in",)),
     Package("libh2-java", f"{JARS}/h2.jar", ("java", "drop-in", "release")),
     Package("maven", "mvn", ("maven",)),
@@ -126,8 +120,6 @@ PACKAGES = (
     Package("libsurefire-java", f"{PLUGINS}/maven-surefire-plugin/2.12.4", ("maven",)),
     Package("junit5", f"{JARS}/junit-jupiter-engine.jar", ("commons-pool",)),
     Package("libcglib-java", f"{JARS}/cglib.jar", ("commons-pool",)),
-    Package("libhikaricp-java", f"{JARS}/HikariCP.jar", ("benchmarks",)),
-    Package("libslf4j-java", f"{JARS}/slf4j-api.jar", ("benchmarks",)),
     Package("postgresql", "/usr/lib/postgresql/*/bin/initdb", OVER_POSTGRES),
     Package("libpq-dev", "/usr/include/postgresql/libpq-fe.h", OVER_POSTGRES),
     Package("libpostgresql-jdbc-java", f"{JARS}/postgresql.jar", OVER_POSTGRES),

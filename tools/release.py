@@ -37,7 +37,7 @@ PROGRAMS = ("pool", "judge", "journal_picture")
 LIBRARY = "zuphinka"
 C_EXAMPLES = ("first_loan.c", "plain_life.c", "long_life.c", "shared_life.c")
 # What the Rust crate is without its tests, which want the repository.
-CRATE = ("Cargo.toml", "Cargo.lock", "build.rs", "README.md", "src", "examples")
+CRATE = ("Cargo.toml", "Cargo.lock", "build.rs", "README.md", "src", "examples", "tests")
 # The section of the README for Java, which is its last.
 JAVA_SECTION = "\n## Java\n"
 COMMIT = re.compile(r"check: commit (\S+)")

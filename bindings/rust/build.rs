@@ -1,4 +1,5 @@
-//! Finds what is linked. A released crate has it in its own folder: `lib/libzuphinka.a`, with what it allocates by. Else it is the
+//! Finds what is linked: nothing where only the documentation is built (docs.rs), or for a target on which the crate does not compile, as
+//! `src/lib.rs` says then. A released crate has it in its own folder: `lib/libzuphinka.a`, with what it allocates by. Else it is the
 //! C library of the core, `libzuphinka.a`, in the folder that ZUPHINKA_LIB names or else in `crates/zuphinka/out` of this
 //! repository; and the file by which it allocates, the one that ZUPHINKA_HEAP names or else `c/liblibc_c.a` of the kit whose guide
 //! `rt doc` names.
@@ -10,10 +11,20 @@ use std::{env, fs};
 fn main() {
     println!("cargo:rerun-if-env-changed=ZUPHINKA_LIB");
     println!("cargo:rerun-if-env-changed=ZUPHINKA_HEAP");
+    println!("cargo:rerun-if-env-changed=DOCS_RS");
+    if env::var_os("DOCS_RS").is_some() || !has_target() {
+        return;
+    }
     if let Err(fault) = link() {
         eprintln!("zuphinka: {fault}");
         std::process::exit(1);
     }
+}
+
+/// Returns whether there is a library for the target.
+fn has_target() -> bool {
+    let is = |key: &str, value: &str| env::var(key).is_ok_and(|told| told == value);
+    is("CARGO_CFG_TARGET_OS", "linux") && is("CARGO_CFG_TARGET_ARCH", "x86_64")
 }
 
 fn named(variable: &str) -> Option<PathBuf> {

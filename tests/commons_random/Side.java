@@ -201,10 +201,13 @@ final class Side {
         }
     }
 
-    /** Returns the kind and the message of what was thrown, and of its cause: without statistics, and of a null without the name of a variable. */
+    /**
+     * Returns the kind and the message of what was thrown, and of its cause: without statistics, without the name and the numbers of the pool that only
+     * one library tells, and of a null without the name of a variable.
+     */
     static String text(Throwable thrown) {
         String text = thrown.getClass().getSimpleName() + ": " + thrown.getMessage();
-        String own = text.split(STATISTICS)[0].replaceFirst("Cannot .* because .* is null", "null");
+        String own = text.split(STATISTICS)[0].replaceFirst("Cannot .* because .* is null", "null").replaceFirst(": pool .*, maxTotal -?[0-9]+", "");
         return thrown.getCause() == null ? own : own + " from " + text(thrown.getCause());
     }
 

@@ -31,7 +31,7 @@ public final class DataSources {
         try {
             result = call.call();
         } catch (Exception e) {
-            result = e.getClass().getSimpleName() + ": " + e.getMessage();
+            result = e.getClass().getSimpleName() + ": " + String.valueOf(e.getMessage()).replaceFirst(": pool .*, maxTotal -?[0-9]+", "");
         }
         System.out.println(name + ": " + result);
     }

@@ -1,8 +1,10 @@
+import io.github.zuphinka.Leak;
 import java.lang.management.ManagementFactory;
 import java.nio.file.Files;
 import java.nio.file.Path;
 import java.time.Duration;
 import java.util.ArrayList;
+import java.util.Collections;
 import java.util.List;
 import java.util.NoSuchElementException;
 import java.util.Random;
@@ -10,6 +12,7 @@ import java.util.Set;
 import java.util.concurrent.CountDownLatch;
 import java.util.concurrent.FutureTask;
 import java.util.concurrent.atomic.AtomicInteger;
+import java.util.regex.Pattern;
 import javax.management.MBeanServer;
 import javax.management.ObjectName;
 import org.apache.commons.pool2.BasePooledObjectFactory;
@@ -179,6 +182,40 @@ public final class DropIn extends Expectations {
         expect("another borrow", "done", ending(() -> pool.returnObject(pool.borrowObject())));
         pool.close();
         expect("alive", 0, factory.alive.get());
+    }
+
+    /** What the library's class has not: the name and the numbers in messages, metrics, and the journal's folder. */
+    private static void more() throws Exception {
+        GenericObjectPool<Object> pool = new GenericObjectPool<>(new Counted());
+        pool.setMaxTotal(1);
+        pool.borrowObject();
+        List<Leak> told = Collections.synchronizedList(new ArrayList<>());
+        pool.setLeakListener(told::add);
+        pool.setLeakStackTraces(true);
+        pool.setLeakDetectionThreshold(Duration.ofMillis(1));
+        String message = "";
+        try {
+            pool.borrowObject(5);
+        } catch (NoSuchElementException e) {
+            message = e.getMessage();
+        }
+        String name = Pattern.quote(pool.getJmxName().toString());
+        expect("a timeout", true, message.matches("Timeout waiting for idle object, borrowMaxWaitDuration=PT0.005S: pool " + name
+                + ", limit 5 ms, waited [0-9]+ ms, lent 1, idle 0, waiting 0, maxTotal 1"));
+        expect("metrics", true, pool.metrics("orders").toString().contains("zuphinka_lent_objects{pool=\"orders\"} 1\n"));
+        String journals = System.getProperty("zuphinka.journals");
+        pool.flushJournal();
+        Path folder = pool.getJournalFolder();
+        expect("a journal", journals != null, folder != null && Files.exists(folder.resolve("segment-00000000000000000000")));
+        if (folder != null) {
+            expect("the folder of a pool", Path.of(journals).resolve(pool.getJmxName().toString()), folder.getParent());
+        }
+        pool.setMaxTotal(2);
+        pool.borrowObject();
+        until(() -> told.size() == 1);
+        expect("a leak", Thread.currentThread().getName(), told.get(0).callerName());
+        expect("with its stack", true, told.get(0).stack() != null);
+        pool.close();
     }
 
     /** A borrow that has no memory to note its times has lent its object all the same. */
@@ -524,6 +561,14 @@ public final class DropIn extends Expectations {
         pool.close();
     }
 
+    /** A factory with a method of a class that is missing is used as any other. */
+    private static void missingClass() throws Exception {
+        GenericObjectPool<Object> pool = new GenericObjectPool<>(Lacking.make());
+        pool.returnObject(pool.borrowObject());
+        expect("a factory that lacks a class", 1, pool.getNumIdle());
+        pool.close();
+    }
+
     public static void main(String[] words) throws Exception {
         String place = GenericObjectPool.class.getProtectionDomain().getCodeSource().getLocation().toString();
         expect("where the class is from", words[0], place.replaceAll(".*/", ""));
@@ -534,6 +579,7 @@ public final class DropIn extends Expectations {
             refused();
         }
         freeSettings();
+        more();
         closedWhileWaiting();
         closedByTwo();
         failingClose();
@@ -549,6 +595,7 @@ public final class DropIn extends Expectations {
         waitingWhileOthersMayNot();
         closedWhileActivating();
         evictedSoFar();
+        missingClass();
         printCounts();
     }
 }

@@ -101,7 +101,7 @@ public final class LaterSettings {
             try {
                 lent.add(pool.borrowObject());
             } catch (NoSuchElementException e) {
-                System.out.println("  " + e.getMessage());
+                System.out.println("  " + e.getMessage().replaceFirst(": pool .*, maxTotal -?[0-9]+", ""));
                 return lent;
             }
         }

@@ -24,6 +24,7 @@ import java.util.concurrent.CountDownLatch;
 import java.util.concurrent.FutureTask;
 import java.util.concurrent.TimeUnit;
 import java.util.concurrent.atomic.AtomicInteger;
+import java.util.function.UnaryOperator;
 import java.util.stream.Collectors;
 import java.util.stream.Stream;
 import javax.management.MBeanAttributeInfo;
@@ -337,6 +338,55 @@ public final class Calls extends Expectations {
         write(pool);
     }
 
+    private static String message(Act act) {
+        try {
+            act.run();
+            return "none";
+        } catch (Exception e) {
+            return e.getMessage().replaceFirst("waited ([0-9]+) ms", "waited");
+        }
+    }
+
+    /** A borrow that gets no object says of which pool, how long it waited, and what there was. */
+    private static void messages() throws Exception {
+        GenericObjectPoolConfig<String> config = config();
+        config.setMaxTotal(2);
+        config.setMaxWait(Duration.ofMillis(20));
+        config.setJmxNamePrefix("orders");
+        ZuphinkaPool<String> pool = new ZuphinkaPool<>(new Texts(), config);
+        pool.borrowObject();
+        String lent = pool.borrowObject();
+        String timeout = "Timeout waiting for idle object: pool orders, limit %d ms, waited, lent 2, idle 0, waiting %d, maxTotal 2";
+        expect("a timeout", String.format(timeout, 20, 0), message(pool::borrowObject));
+        expect("one of an own limit", String.format(timeout, 5, 0), message(() -> pool.borrowObject(5)));
+        expect("one without a wait", String.format(timeout, 0, 0), message(() -> pool.borrowObject(Duration.ZERO)));
+        whileWaiting(pool, 1, () -> pool.borrowObject(-1), () -> {
+            expect("one beside another", String.format(timeout, 5, 1), message(() -> pool.borrowObject(5)));
+            pool.returnObject(lent);
+        });
+        String[] numbers = result(() -> {
+            try {
+                return pool.borrowObject(30);
+            } catch (NoSuchElementException e) {
+                return e.getMessage();
+            }
+        }).toString().split("waited | ms, lent");
+        expect("it waited as long as it may", true, Long.parseLong(numbers[1]) >= 30);
+        pool.setBlockWhenExhausted(false);
+        expect("no wait", "Pool exhausted: pool orders, lent 2, idle 0, waiting 0, maxTotal 2", message(pool::borrowObject));
+        expect("the pool", "ZuphinkaPool[pool orders, lent 2, reserved 0, idle 0, waiting 0, maxTotal 2]", pool.toString());
+        String counts = pool.getCounts().toString();
+        expect("its counts", true, counts.matches("Counts\\[steps [0-9]+, idle 0, lent 2, reserved 0, created 2, destroyed 0, .*, room [0-9]+]"));
+        pool.close();
+        expect("a closed one", true, pool.toString().endsWith("maxTotal 2, closed]"));
+        ZuphinkaPool<String> named = new ZuphinkaPool<>(new Texts());
+        expect("the name of its MBean", true, named.toString().startsWith("ZuphinkaPool[pool " + named.getJmxName() + ", lent 0"));
+        named.close();
+        ZuphinkaPool<String> nameless = new ZuphinkaPool<>(new Texts(), config());
+        expect("without one, the class of its factory", true, nameless.toString().startsWith("ZuphinkaPool[pool of Calls$Texts, lent 0"));
+        nameless.close();
+    }
+
     private static void limits() throws Exception {
         GenericObjectPoolConfig<String> config = config();
         config.setMaxTotal(1);
@@ -598,9 +648,13 @@ public final class Calls extends Expectations {
         thread.join(LONGEST_MILLIS);
         expect("its thread ends", false, thread.isAlive());
         expect("what it made is destroyed", "0 idle, 0 active, 1 created, 1 destroyed", counts(pool));
-        config.setEvictorShutdownTimeout(Duration.ofSeconds(Long.MAX_VALUE));
-        ZuphinkaPool<String> patient = new ZuphinkaPool<>(new Texts(), config);
-        expect("a close with the longest time for its thread", "done", ending(patient::close));
+        config.setJmxEnabled(true);
+        for (long seconds : new long[] {Long.MAX_VALUE, Long.MIN_VALUE}) {
+            config.setEvictorShutdownTimeout(Duration.ofSeconds(seconds));
+            ZuphinkaPool<String> other = new ZuphinkaPool<>(new Texts(), config);
+            expect("a close with " + seconds + " seconds for its thread", "done", ending(other::close));
+            expect("its MBean is registered", false, ManagementFactory.getPlatformMBeanServer().isRegistered(other.getJmxName()));
+        }
     }
 
     /** A factory whose texts a call makes. */
@@ -1107,13 +1161,20 @@ public final class Calls extends Expectations {
         expect("an abandoned object is logged", true, log.toString().contains("has not been returned to the pool"));
     }
 
-    /** An object that says when it was last used. */
-    static final class Tracked implements TrackedUse {
+    /** An object that says when it was last used, and counts how often it was asked. Meanwhile it may act. */
+    private static final class Tracked implements TrackedUse {
         Instant used = Instant.EPOCH;
+        Act act = () -> {};
+        int asked;
 
         @Override
         public Instant getLastUsedInstant() {
-            return used;
+            Instant answer = used;
+            asked++;
+            Act once = act;
+            act = () -> {};
+            ending(once);
+            return answer;
         }
 
         @Override
@@ -1123,14 +1184,19 @@ public final class Calls extends Expectations {
         }
     }
 
-    private static void trackedUse() throws Exception {
+    /** Returns a pool of such objects, which are abandoned after a time. */
+    private static ZuphinkaPool<Tracked> tracked(int maxTotal, Duration timeout) {
         GenericObjectPoolConfig<Tracked> config = new GenericObjectPoolConfig<>();
-        config.setMaxTotal(1);
+        config.setJmxEnabled(false);
+        config.setMaxTotal(maxTotal);
+        config.setMaxIdle(maxTotal);
         config.setBlockWhenExhausted(false);
         AbandonedConfig abandoned = new AbandonedConfig();
         abandoned.setRemoveAbandonedOnBorrow(true);
-        abandoned.setRemoveAbandonedTimeout(Duration.ofSeconds(1));
-        BasePooledObjectFactory<Tracked> factory = new BasePooledObjectFactory<>() {
+        abandoned.setRemoveAbandonedOnMaintenance(true);
+        abandoned.setRemoveAbandonedTimeout(timeout);
+        abandoned.setUseUsageTracking(true);
+        return new ZuphinkaPool<>(new BasePooledObjectFactory<>() {
             @Override
             public Tracked create() {
                 return new Tracked();
@@ -1140,8 +1206,11 @@ public final class Calls extends Expectations {
             public PooledObject<Tracked> wrap(Tracked tracked) {
                 return new DefaultPooledObject<>(tracked);
             }
-        };
-        ZuphinkaPool<Tracked> pool = new ZuphinkaPool<>(factory, config, abandoned, Journal.kept());
+        }, config, abandoned, Journal.kept());
+    }
+
+    private static void trackedUse() throws Exception {
+        ZuphinkaPool<Tracked> pool = tracked(1, Duration.ofSeconds(1));
         Tracked tracked = pool.borrowObject();
         Thread.sleep(1_050);
         tracked.used = Instant.now();
@@ -1152,65 +1221,73 @@ public final class Calls extends Expectations {
         write(pool);
     }
 
-    /** A wrapper that first acts, and then answers what it would have answered before. */
-    private static final class Acting extends DefaultPooledObject<Tracked> {
-        Act act;
-        int asked;
-
-        Acting(Tracked tracked) {
-            super(tracked);
-        }
-
-        @Override
-        public Instant getLastBorrowInstant() {
-            Instant lent = super.getLastBorrowInstant();
-            Act once = act;
-            act = null;
-            if (once != null) {
-                asked++;
-                ending(once);
-            }
-            return lent;
+    /** An answer that differs from the one before is a use, whatever the wall clock says meanwhile; and one that does not is none. */
+    private static void setClock() throws Exception {
+        List<UnaryOperator<Instant>> clocks = List.of(now -> now.minusSeconds(3_600), now -> now.plusSeconds(3_600), now -> Instant.MIN);
+        for (UnaryOperator<Instant> clock : clocks) {
+            ZuphinkaPool<Tracked> pool = tracked(1, Duration.ofSeconds(1));
+            Tracked tracked = pool.borrowObject();
+            Thread.sleep(1_050);
+            tracked.used = clock.apply(Instant.now());
+            pool.evict();
+            expect("an object that was used at " + tracked.used, "0 idle, 1 active, 1 created, 0 destroyed", counts(pool));
+            Thread.sleep(1_050);
+            pool.evict();
+            expect("it is abandoned later", "0 idle, 0 active, 1 created, 1 destroyed", counts(pool));
+            pool.close();
+            write(pool);
         }
     }
 
     /** A use by the account of an object counts for no later loan. Nor is it asked for if the pool knows a later use. */
     private static void earlierUse() throws Exception {
-        GenericObjectPoolConfig<Tracked> config = new GenericObjectPoolConfig<>();
-        config.setJmxEnabled(false);
-        config.setMaxTotal(1);
-        AbandonedConfig abandoned = new AbandonedConfig();
-        abandoned.setRemoveAbandonedOnMaintenance(true);
-        abandoned.setRemoveAbandonedTimeout(Duration.ofSeconds(1));
-        abandoned.setUseUsageTracking(true);
-        Tracked tracked = new Tracked();
-        Acting wrapper = new Acting(tracked);
-        ZuphinkaPool<Tracked> pool = new ZuphinkaPool<>(new BasePooledObjectFactory<>() {
-            @Override
-            public Tracked create() {
-                return tracked;
-            }
-
-            @Override
-            public PooledObject<Tracked> wrap(Tracked some) {
-                return wrapper;
-            }
-        }, config, abandoned, Journal.kept());
-        pool.borrowObject();
+        ZuphinkaPool<Tracked> pool = tracked(1, Duration.ofSeconds(1));
+        Tracked tracked = pool.borrowObject();
         Thread.sleep(5);
         tracked.used = Instant.now();
         Thread.sleep(1_050);
-        wrapper.act = () -> {
+        tracked.act = () -> {
             pool.returnObject(tracked);
             pool.borrowObject();
         };
         pool.evict();
-        expect("an object that is lent again meanwhile", "1 asked, 0 idle, 1 active, 1 created, 0 destroyed", wrapper.asked + " asked, " + counts(pool));
+        expect("an object that is lent again meanwhile", "0 idle, 1 active, 1 created, 0 destroyed", counts(pool));
         Thread.sleep(1_050);
         pool.use(tracked);
-        wrapper.act = () -> {};
+        int asked = tracked.asked;
         pool.evict();
-        expect("one whose use was noted", "1 asked, 0 idle, 1 active, 1 created, 0 destroyed", wrapper.asked + " asked, " + counts(pool));
+        expect("one whose use was noted", "0 idle, 1 active, 1 created, 0 destroyed", counts(pool));
+        expect("it is not asked", asked, tracked.asked);
+        tracked.used = Instant.now();
+        pool.returnObject(tracked);
+        pool.borrowObject();
+        Thread.sleep(1_050);
+        pool.evict();
+        expect("one that was used in an earlier loan", "0 idle, 0 active, 1 created, 1 destroyed", counts(pool));
+        pool.close();
+        write(pool);
+    }
+
+    /** A borrow that reclaims nothing asks no lent object. */
+    private static void fewQuestions() throws Exception {
+        ZuphinkaPool<Tracked> pool = tracked(10, Duration.ZERO);
+        List<Tracked> lent = new ArrayList<>();
+        while (lent.size() < 6) {
+            lent.add(pool.borrowObject());
+        }
+        pool.addObject();
+        pool.addObject();
+        lent.forEach(tracked -> tracked.asked = 0);
+        pool.returnObject(pool.borrowObject());
+        expect("questions of a borrow beside idle objects", 0, lent.stream().mapToInt(tracked -> tracked.asked).sum());
+        pool.clear();
+        pool.returnObject(pool.borrowObject());
+        expect("questions of a borrow with free places", 0, lent.stream().mapToInt(tracked -> tracked.asked).sum());
+        while (pool.getNumActive() < 8) {
+            pool.borrowObject();
+        }
+        pool.borrowObject();
+        expect("questions of a borrow that reclaims", 6, lent.stream().mapToInt(tracked -> tracked.asked).sum());
         pool.close();
         write(pool);
     }
@@ -1269,6 +1346,7 @@ public final class Calls extends Expectations {
         }
         Thread.sleep(1_050);
         lent.forEach(teller -> teller.used = Instant.now());
+        asked.clear();
         pool.evict();
         expect("objects that are asked", 8, asked.size());
         SlowTeller last = asked.get(asked.size() - 1);
@@ -1451,7 +1529,8 @@ public final class Calls extends Expectations {
 
     private static void journals(Path folder) throws Exception {
         ZuphinkaPool<String> dropping = new ZuphinkaPool<>(new Texts(), config(), null, Journal.dropped().limit(100));
-        ZuphinkaPool<String> storing = new ZuphinkaPool<>(new Texts(), config(), null, Journal.inFolder(folder.resolve("stored")).limit(100));
+        Journal stored = Journal.inFolder(folder.resolve("stored")).limit(100).storeEvery(Duration.ZERO);
+        ZuphinkaPool<String> storing = new ZuphinkaPool<>(new Texts(), config(), null, stored);
         ZuphinkaPool<String> keeping = new ZuphinkaPool<>(new Texts(), config(), null, Journal.kept().limit(100));
         int drops = 0;
         for (int round = 0; round < 200; round++) {
@@ -1465,6 +1544,8 @@ public final class Calls extends Expectations {
             keeping.returnObject(keeping.borrowObject());
         }
         expect("a kept journal gets full", "IllegalStateException: Journal full", result(keeping::borrowObject));
+        expect("a cut of a stored journal", "UnsupportedOperationException: cut: this pool stores its journal; flushJournal stores what it has so far",
+                result(storing::cut));
         Segment segment = keeping.cut();
         expect("its segment", "0 96", segment.position() + " " + segment.entries());
         expect("and goes on", "text 0", keeping.borrowObject());
@@ -1475,12 +1556,10 @@ public final class Calls extends Expectations {
         expect("a further close makes no entry", 3L, keeping.getCounts().entries());
         dropping.close();
         storing.close();
-        try (Stream<Path> files = Files.list(folder.resolve("stored"))) {
-            // Those of the loans, one for the close, and the settings.
-            expect("a stored journal has as many segments", 200 * 4 / 50 + 2L, files.count());
+        try (Stream<Path> files = Files.list(storing.getJournalFolder())) {
+            // Those of the loans, the last of which has the close too, the settings, the start, and the names of callers.
+            expect("a stored journal has as many segments", 200 * 4 / 50 + 3L, files.count());
         }
-        expect("a folder with a journal", "FileAlreadyExistsException", result(() -> Journal.inFolder(folder.resolve("stored")))
-                .toString().replaceAll(":.*", ""));
         failingSink();
         manyObjects();
         interruptedStore(folder.resolve("interrupted/stored"));
@@ -1489,7 +1568,8 @@ public final class Calls extends Expectations {
     /** An interrupt keeps no segment from being stored. */
     private static void interruptedStore(Path to) throws Exception {
         List<Exception> noted = new ArrayList<>();
-        ZuphinkaPool<String> pool = new ZuphinkaPool<>(new Texts(), config(), null, Journal.inFolder(to)) {
+        Journal journal = Journal.inFolder(to).storeEvery(Duration.ZERO);
+        ZuphinkaPool<String> pool = new ZuphinkaPool<>(new Texts(), config(), null, journal) {
             @Override
             protected void swallowed(Exception failure) {
                 noted.add(failure);
@@ -1500,8 +1580,8 @@ public final class Calls extends Expectations {
         pool.close();
         expect("a thread that is interrupted stays so", true, Thread.interrupted());
         expect("its failures", List.of(), noted);
-        try (Stream<Path> files = Files.list(to)) {
-            expect("its files", List.of("segment-00000000000000000000", "settings.toml"),
+        try (Stream<Path> files = Files.list(pool.getJournalFolder())) {
+            expect("its files", List.of("callers.txt", "segment-00000000000000000000", "settings.toml", "start.toml"),
                     files.map(file -> file.getFileName().toString()).sorted().collect(Collectors.toList()));
         }
     }
@@ -1573,6 +1653,7 @@ public final class Calls extends Expectations {
         failingLeases();
         leasesWithoutMemory();
         leasesOfThreads();
+        messages();
         limits();
         wholeWaits();
         times();
@@ -1594,7 +1675,9 @@ public final class Calls extends Expectations {
         states();
         statesOfNew();
         trackedUse();
+        setClock();
         earlierUse();
+        fewQuestions();
         slowReport();
         refusals();
         closedAndFull();

@@ -511,6 +511,13 @@ public final class Errors extends Expectations {
         pool.close();
     }
 
+    /** A factory with a method of a class that is missing is used as any other. */
+    private static void missingClass() throws Exception {
+        ZuphinkaPool<Object> pool = new ZuphinkaPool<>(Lacking.make(), config(1));
+        expect("a factory that lacks a class", "1 idle, 0 active, 1 created, 0 destroyed", afterLoan(pool));
+        pool.close();
+    }
+
     private static String said(Throwable failure) {
         return failure.getClass().getSimpleName() + ": " + failure.getMessage();
     }
@@ -529,6 +536,7 @@ public final class Errors extends Expectations {
         }
         closes();
         maintained();
+        missingClass();
         printCounts();
     }
 }

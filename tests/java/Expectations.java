@@ -40,8 +40,13 @@ abstract class Expectations {
             return call.call();
         } catch (Throwable e) {
             String cause = e.getCause() == null ? "" : " from " + e.getCause().getMessage();
-            return e.getClass().getSimpleName() + ": " + e.getMessage() + cause;
+            return e.getClass().getSimpleName() + ": " + withoutNumbers(e) + cause;
         }
+    }
+
+    /** Returns a message without the name and the numbers of a pool, and without those of a slow sink. */
+    private static String withoutNumbers(Throwable thrown) {
+        return String.valueOf(thrown.getMessage()).replaceFirst(": pool .*, maxTotal -?[0-9]+", "").replaceFirst(", and has been storing .* ms$", "");
     }
 
     /** Makes a call in another thread. */

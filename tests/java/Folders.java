@@ -11,6 +11,8 @@ import java.nio.charset.StandardCharsets;
 import java.nio.file.Files;
 import java.nio.file.Path;
 import java.time.Duration;
+import java.time.Instant;
+import java.time.temporal.ChronoUnit;
 import java.util.ArrayList;
 import java.util.Arrays;
 import java.util.Collections;
@@ -18,8 +20,6 @@ import java.util.Comparator;
 import java.util.List;
 import java.util.Locale;
 import java.util.Set;
-import java.util.concurrent.CyclicBarrier;
-import java.util.concurrent.TimeUnit;
 import java.util.stream.Collectors;
 import java.util.stream.Stream;
 import javax.management.MBeanServer;
@@ -30,16 +30,16 @@ import org.apache.commons.pool2.impl.DefaultPooledObject;
 import org.apache.commons.pool2.impl.GenericObjectPoolConfig;
 
 /**
- * Journals in folders: no two pools store theirs in one, a folder stays the same whatever happens to it, and all entries are stored, of any length.
+ * Journals in folders: each pool has one of its own, a folder stays the same whatever happens to it, and all entries are stored, of any length.
  *
  * <p>{@code Folders FOLDER} writes the journals to folders in this one, and changes its current folder. The native library is linked with
  * tests/refuse_java.c, and has parts of 512 bytes.
  */
 public final class Folders extends Expectations {
-    private static final int RACES = 20;
-    private static final long LONGEST_SECONDS = 60;
-    private static final String TAKEN = "FileAlreadyExistsException";
     private static final String FIRST = "segment-00000000000000000000";
+    private static final String SETTINGS = "settings.toml";
+    /** The files of a folder whose pool had one caller. */
+    private static final List<String> FILES = List.of("callers.txt", FIRST, SETTINGS, "start.toml");
 
     private Folders() {}
 
@@ -100,8 +100,13 @@ public final class Folders extends Expectations {
         }
     }
 
+    /** Returns a journal that is stored when it is told to be. */
+    private static Journal stored(Path folder) throws IOException {
+        return Journal.inFolder(folder).storeEvery(Duration.ZERO);
+    }
+
     private static Noting pool(Path folder) throws IOException {
-        return new Noting(new Texts(), Journal.inFolder(folder));
+        return new Noting(new Texts(), stored(folder));
     }
 
     private static List<String> files(Path folder) throws IOException {
@@ -133,24 +138,35 @@ public final class Folders extends Expectations {
         return text.lines().filter(line -> line.matches("\\d+ .* = .*")).count();
     }
 
-    /** Two pools of one process store their first segments one after the other. */
-    private static void twoPools(Path folder) throws Exception {
-        Noting first = pool(folder);
-        Noting second = pool(folder);
-        first.play(3).flushJournal();
-        second.play(1).flushJournal();
-        first.play(1).close();
-        second.close();
-        expect("the first of two pools", List.of(), first.noted);
-        expect("the second of two pools", List.of(TAKEN, TAKEN), second.noted);
-        expect("the entries of the first pool", first.getCounts().steps(), entries(folder));
-        expect("no other file", 3, files(folder).size());
-        try {
-            Journal.inFolder(folder);
-            expect("a folder with a journal", TAKEN, "");
-        } catch (IOException e) {
-            expect("a folder with a journal", TAKEN, e.getClass().getSimpleName());
+    /** Each pool has a folder of its own, whatever its parent is. */
+    private static void severalPools(Path parent) throws Exception {
+        Journal journal = Journal.inFolder(parent);
+        List<Noting> pools = List.of(new Noting(new Texts(), journal).play(1), new Noting(new Texts(), journal.limit(100)).play(2), pool(parent).play(3));
+        for (Noting pool : pools) {
+            pool.close();
+            expect("the failures of a pool beside others", List.of(), pool.noted);
+            expect("its entries", pool.getCounts().steps(), entries(pool.getJournalFolder()));
         }
+        List<String> folders = pools.stream().map(pool -> pool.getJournalFolder().getFileName().toString()).sorted().collect(Collectors.toList());
+        expect("a folder for each", folders, files(parent));
+        String named = "\\d{8}T\\d{6}Z-" + ProcessHandle.current().pid() + "(-[23])?";
+        expect("their names", List.of(true, true, true), folders.stream().map(name -> name.matches(named)).collect(Collectors.toList()));
+    }
+
+    /** The file of a start has its times and its process. */
+    private static void start(Path parent) throws Exception {
+        Instant before = Instant.now().truncatedTo(ChronoUnit.MILLIS);
+        Noting pool = pool(parent).play(1);
+        Instant after = Instant.now();
+        List<String> lines = Files.readAllLines(pool.getJournalFolder().resolve("start.toml"));
+        List<Instant> times = lines.subList(0, 2).stream().map(line -> Instant.parse(line.split("\"")[1])).collect(Collectors.toList());
+        expect("the keys of a start", List.of("started = ", "zero = ", "process = " + ProcessHandle.current().pid()),
+                lines.stream().map(line -> line.replaceAll("\".*", "")).collect(Collectors.toList()));
+        expect("the time 0 is that of the pool", true, !times.get(1).isBefore(before) && !times.get(1).isAfter(times.get(0)));
+        expect("it started then", true, !times.get(0).isAfter(after));
+        String name = pool.getJournalFolder().getFileName().toString();
+        expect("the name has the same time", times.get(0).toString().replaceAll("[-:]|[.]\\d+", ""), name.replaceAll("-.*", ""));
+        pool.close();
     }
 
     /** A pool whose maintenance thread cannot be started. */
@@ -172,32 +188,8 @@ public final class Folders extends Expectations {
         Journal journal = Journal.inFolder(folder);
         expect("a pool that cannot be made", "OutOfMemoryError: thread", result(() -> new Unmade(journal)));
         expect("its MBean", Set.of(), server.queryNames(all, null));
+        expect("its folder", List.of(), files(folder));
         expect("another pool with its journal", "done", ending(() -> new Noting(new Texts(), journal).play(1).close()));
-    }
-
-    /** Two pools store their first segments at the same time. One has two entries for each of the other's. */
-    private static void race(Path folder) throws Exception {
-        CyclicBarrier barrier = new CyclicBarrier(2);
-        List<Noting> pools = List.of(pool(folder).play(1), pool(folder).play(2));
-        List<Thread> threads = new ArrayList<>();
-        for (Noting pool : pools) {
-            threads.add(new Thread(() -> {
-                try {
-                    barrier.await(LONGEST_SECONDS, TimeUnit.SECONDS);
-                } catch (Exception e) {
-                    pool.noted.add(e.toString());
-                }
-                pool.flushJournal();
-            }));
-        }
-        threads.forEach(Thread::start);
-        for (Thread thread : threads) {
-            thread.join();
-        }
-        List<Noting> winners = pools.stream().filter(pool -> pool.noted.isEmpty()).collect(Collectors.toList());
-        expect("pools that have stored their segment", 1, winners.size());
-        expect("its entries", winners.get(0).getCounts().steps(), entries(folder.resolve(FIRST)));
-        expect("the files of a race", List.of(FIRST, "settings.toml"), files(folder));
     }
 
     private static String refusal(Journal journal) {
@@ -209,60 +201,80 @@ public final class Folders extends Expectations {
         }
     }
 
-    /** One journal is for one pool, and is free again if that could not be made. */
-    private static void oneJournal(Path folder) throws Exception {
+    /** A pool that there is no memory for leaves no folder, and one below a file is refused. */
+    private static void refused(Path folder) throws Exception {
         Journal journal = Journal.inFolder(folder);
         Refusal.refuse(1);
         expect("a pool without memory", "zuphinka: no memory for a pool", refusal(journal));
         Refusal.refuse(0);
-        Noting pool = new Noting(new Texts(), journal).play(1);
-        expect("another pool with the journal", "journal: another pool stores its own in this folder", refusal(journal));
-        expect("and with another limit", "journal: another pool stores its own in this folder", refusal(journal.limit(100)));
-        pool.close();
-        expect("all entries", pool.getCounts().steps(), entries(folder));
-        Journal kept = Journal.kept();
-        expect("a kept journal is for any number of pools", List.of("none", "none"), List.of(refusal(kept), refusal(kept)));
+        expect("its folder", List.of(), files(folder));
+        Path file = Files.createFile(folder.resolve("file"));
+        expect("a folder that is a file", "FileAlreadyExistsException", kind(result(() -> Journal.inFolder(file))));
+        expect("a folder below a file", "FileAlreadyExistsException", kind(result(() -> Journal.inFolder(file.resolve("below")))));
+        Journal gone = Journal.inFolder(folder.resolve("gone"));
+        Files.delete(folder.resolve("gone"));
+        Files.createFile(folder.resolve("gone"));
+        expect("a folder that is a file by then", "UncheckedIOException", kind(result(() -> new Noting(new Texts(), gone))));
+        remove(folder);
+    }
+
+    private static Object kind(Object thrown) {
+        return thrown.toString().replaceAll(":.*", "");
     }
 
     /** A folder that is removed is made again, with its settings. So are the settings alone. */
-    private static void removed(Path folder) throws Exception {
-        Noting pool = pool(folder);
+    private static void removed(Path parent) throws Exception {
+        Noting pool = pool(parent);
+        Path folder = pool.getJournalFolder();
         pool.play(1).flushJournal();
         remove(folder);
         pool.play(1).flushJournal();
-        expect("a folder that was removed", List.of("segment-00000000000000000004", "settings.toml"), files(folder));
-        Files.delete(folder.resolve("settings.toml"));
+        expect("a folder that was removed", List.of("segment-00000000000000000004", SETTINGS, "start.toml"), files(folder));
+        Files.delete(folder.resolve(SETTINGS));
         pool.play(1).flushJournal();
-        expect("a file that was removed", List.of("segment-00000000000000000004", "segment-00000000000000000008", "settings.toml"), files(folder));
+        expect("a file that was removed", List.of("segment-00000000000000000004", "segment-00000000000000000008", SETTINGS, "start.toml"), files(folder));
         pool.close();
         expect("failures", List.of(), pool.noted);
         remove(folder); // its journal has no beginning
     }
 
-    /** A folder that was moved away, while another pool took its place. */
-    private static void replaced(Path folder) throws Exception {
-        Path moved = folder.resolveSibling("moved");
-        Noting pool = pool(folder);
+    /** Settings that are removed after a change are put back as they were, and those of the change beside them: the journal stays legal. */
+    private static void removedAfterChange(Path parent) throws Exception {
+        Noting pool = pool(parent).play(1);
+        Path file = pool.getJournalFolder().resolve(SETTINGS);
+        String first = pool.getSettingsText();
+        pool.setMaxTotal(9);
         pool.play(1).flushJournal();
-        Files.move(folder, moved);
-        Noting other = pool(folder);
-        other.play(1).flushJournal();
-        List<String> stored = files(folder);
+        Files.delete(file);
         pool.play(1).flushJournal();
-        expect("a folder that another pool has taken", List.of(TAKEN), pool.noted);
-        expect("its files", stored, files(folder));
-        other.close();
-        expect("the failures of its pool", List.of(), other.noted);
-        remove(folder);
-        Files.move(moved, folder);
+        expect("the settings that were removed", first, Files.readString(file));
+        expect("those of the change, at both segments", List.of(pool.getSettingsText(), pool.getSettingsText()),
+                List.of(Files.readString(file.resolveSibling("settings-00000000000000000004.toml")),
+                        Files.readString(file.resolveSibling("settings-00000000000000000008.toml"))));
         pool.close();
-        expect("the entries of a folder that is back", pool.getCounts().steps(), entries(folder));
+    }
+
+    /** A file of entries that is removed, or is shorter than it was: the next one has the base that its entries continue. */
+    private static void lostSegment(Path parent) throws Exception {
+        Noting pool = pool(parent);
+        Path folder = pool.getJournalFolder();
+        pool.play(1).flushJournal();
+        pool.play(1).flushJournal();
+        expect("entries in one file", 8L, entries(folder.resolve(FIRST)));
+        Files.write(folder.resolve(FIRST), new byte[0]);
+        pool.play(1).flushJournal();
+        expect("a file beside one that is shorter", 4L, entries(folder.resolve("segment-00000000000000000008")));
+        Files.delete(folder.resolve("segment-00000000000000000008"));
+        pool.play(1).flushJournal();
+        expect("a file in place of one that is gone", 4L, entries(folder.resolve("segment-00000000000000000012")));
+        pool.close();
+        remove(parent); // its journal has no beginning
     }
 
     /** What is returned after the close is stored too, also if an object never comes back. */
     private static void returnedLate(Path folder) throws Exception {
         Texts texts = new Texts();
-        Noting pool = new Noting(texts, Journal.inFolder(folder));
+        Noting pool = new Noting(texts, stored(folder));
         List<String> lent = new ArrayList<>();
         while (lent.size() < 6) {
             lent.add(pool.borrowObject());
@@ -279,22 +291,21 @@ public final class Folders extends Expectations {
             pool.noted.add("thrown");
         }
         expect("destructions that fail", List.of("IOException", "thrown"), pool.noted);
-        expect("entries after the close, one is lent", pool.getCounts().steps(), entries(folder));
+        expect("entries after the close, one is lent", pool.getCounts().steps(), entries(pool.getJournalFolder()));
         texts.isBroken = false;
         pool.returnObject(lent.get(5));
-        expect("entries after the close", pool.getCounts().steps(), entries(folder));
-        expect("few segments", true, files(folder).size() <= 2 + 4);
+        expect("entries after the close", pool.getCounts().steps(), entries(pool.getJournalFolder()));
     }
 
     /** What a borrow adds is stored too if the pool is closed while its object is made, whether that fails or not. */
     private static void closedInMake(Path folder) throws Exception {
         Texts texts = new Texts();
-        Noting pool = new Noting(texts, Journal.inFolder(folder.resolve("made")));
+        Noting pool = new Noting(texts, stored(folder.resolve("made")));
         texts.during = pool::close;
         String lent = pool.borrowObject();
         pool.returnObject(lent);
-        expect("entries of a borrow during a close", pool.getCounts().steps(), entries(folder.resolve("made")));
-        Noting other = new Noting(texts, Journal.inFolder(folder.resolve("failed")));
+        expect("entries of a borrow during a close", pool.getCounts().steps(), entries(pool.getJournalFolder()));
+        Noting other = new Noting(texts, stored(folder.resolve("failed")));
         texts.during = () -> {
             other.close();
             throw new IOException("make");
@@ -304,7 +315,7 @@ public final class Folders extends Expectations {
         } catch (IOException e) {
             expect("a make that fails", "make", e.getMessage());
         }
-        expect("entries of a make that fails during a close", other.getCounts().steps(), entries(folder.resolve("failed")));
+        expect("entries of a make that fails during a close", other.getCounts().steps(), entries(other.getJournalFolder()));
     }
 
     /** A sink that returns an object of its pool after the close does not wait for itself. */
@@ -328,14 +339,18 @@ public final class Folders extends Expectations {
     /** The names of files have the digits of ASCII, whatever the locale. */
     private static void locale(Path folder) throws Exception {
         Locale before = Locale.getDefault();
+        Path stored = null;
         Locale.setDefault(Locale.forLanguageTag("ar-EG-u-nu-arab"));
         try {
             expect("the locale has other digits", false, "0".equals(String.format("%d", 0)));
-            pool(folder).play(1).close();
+            Noting pool = pool(folder).play(1);
+            stored = pool.getJournalFolder();
+            pool.close();
         } finally {
             Locale.setDefault(before);
         }
-        expect("files in another locale", List.of(FIRST, "settings.toml"), files(folder));
+        expect("a folder in another locale", true, stored.getFileName().toString().matches("[0-9TZ-]+"));
+        expect("its files", FILES, files(stored));
     }
 
     /** A relative folder stays the same if the current folder changes. */
@@ -347,7 +362,8 @@ public final class Folders extends Expectations {
         pool.close();
         expect("the current folder again", true, Refusal.enter(before));
         expect("failures in another folder", List.of(), pool.noted);
-        expect("the files of a relative folder", List.of(FIRST, "settings.toml"), files(folder.resolve("stored")));
+        expect("the files of a relative folder", FILES, files(pool.getJournalFolder()));
+        expect("it stays where it was", true, Files.isSameFile(folder.resolve("stored"), pool.getJournalFolder().getParent()));
     }
 
     /** Counts bytes. */
@@ -391,8 +407,8 @@ public final class Folders extends Expectations {
     /** A large segment is stored where there is little memory beside the heap. */
     private static void large(Path folder) throws Exception {
         byte[] text = new byte[(8 << 20) + 1];
-        Parts.store(folder, Parts.repeated(text, 2));
-        expect("the bytes of a large segment", 2L * text.length, Files.size(folder.resolve(FIRST)));
+        Path stored = Parts.store(folder, Parts.repeated(text, 2));
+        expect("the bytes of a large segment", 2L * text.length, Files.size(stored.resolve(FIRST)));
         remove(folder);
     }
 
@@ -400,14 +416,13 @@ public final class Folders extends Expectations {
         Path folder = Path.of(words[0]);
         texts();
         large(folder.resolve("large"));
-        twoPools(folder.resolve("two"));
+        severalPools(folder.resolve("several"));
+        start(folder.resolve("start"));
         unmade(folder.resolve("unmade"));
-        for (int number = 0; number < RACES; number++) {
-            race(folder.resolve("race-" + number));
-        }
-        oneJournal(folder.resolve("one"));
+        refused(folder.resolve("refused"));
         removed(folder.resolve("removed"));
-        replaced(folder.resolve("replaced"));
+        removedAfterChange(folder.resolve("changed"));
+        lostSegment(folder.resolve("lost"));
         returnedLate(folder.resolve("late"));
         closedInMake(folder.resolve("closed"));
         returnedInSink();

@@ -1,27 +1,31 @@
+import io.github.zuphinka.Journal;
 import io.github.zuphinka.ZuphinkaPool;
+import java.io.IOException;
 import java.lang.ref.WeakReference;
 import java.net.URL;
 import java.net.URLClassLoader;
+import java.nio.file.Files;
 import java.nio.file.Path;
+import java.time.Duration;
 import java.util.ArrayList;
 import java.util.List;
 import org.apache.commons.pool2.BasePooledObjectFactory;
 import org.apache.commons.pool2.PooledObject;
 import org.apache.commons.pool2.impl.DefaultPooledObject;
+import org.apache.commons.pool2.impl.GenericObjectPoolConfig;
 
 /**
- * Uses a pool in each of two class loaders, as two applications of one server do, which end then. {@code Loaders PATH..}: the paths of the classes of this program,
- * of the library and of Commons Pool.
+ * Uses pools in each of two class loaders, as two applications of one server do, which end then. {@code Loaders PATH..}: the paths of the classes of
+ * this program, of the library and of Commons Pool. The property {@code journals} names a folder for the journals. Where the environment names a file by
+ * {@code HELD}, a native library of tests/refuse_java.c tells there how many of its allocations are left, as it is unloaded with a class loader.
  */
 public final class Loaders extends Expectations {
-    private static final int MOST_COLLECTIONS = 100;
     /** The pool of this class loader, which nobody forgets. */
     private static ZuphinkaPool<String> kept;
 
     private Loaders() {}
 
-    /** Lends an object of a new pool, and returns it. */
-    public static String lend() throws Exception {
+    private static ZuphinkaPool<String> pool(boolean hasBean) throws IOException {
         BasePooledObjectFactory<String> factory = new BasePooledObjectFactory<>() {
             @Override
             public String create() {
@@ -33,8 +37,19 @@ public final class Loaders extends Expectations {
                 return new DefaultPooledObject<>(text);
             }
         };
-        try (ZuphinkaPool<String> pool = new ZuphinkaPool<>(factory)) {
+        GenericObjectPoolConfig<String> config = new GenericObjectPoolConfig<>();
+        config.setJmxEnabled(hasBean);
+        ZuphinkaPool<String> pool = new ZuphinkaPool<>(factory, config, null, Journal.inFolder(Path.of(System.getProperty("journals"))));
+        pool.setLeakDetectionThreshold(Duration.ofHours(1));
+        return pool;
+    }
+
+    /** Lends an object of a new pool, and returns it. Another one stays lent, and one of a pool that is forgotten and not closed. */
+    public static String lend() throws Exception {
+        pool(false).borrowObject();
+        try (ZuphinkaPool<String> pool = pool(true)) {
             kept = pool;
+            pool.borrowObject();
             String lent = pool.borrowObject();
             pool.returnObject(lent);
             return lent;
@@ -68,11 +83,16 @@ public final class Loaders extends Expectations {
             urls.add(Path.of(word).toUri().toURL());
         }
         List<WeakReference<ClassLoader>> loaders = used(urls.toArray(new URL[0]));
-        for (int collections = 0; collections < MOST_COLLECTIONS && left(loaders) > 0; collections++) {
+        until(() -> {
             System.gc();
-            Thread.sleep(10);
-        }
+            return left(loaders) == 0;
+        });
         expect("class loaders that are left", 0L, left(loaders));
+        String held = System.getenv("HELD");
+        if (held != null) {
+            until(() -> Files.exists(Path.of(held)) && Files.readAllLines(Path.of(held)).size() == loaders.size());
+            expect("allocations that are left", List.of("0", "0"), Files.readAllLines(Path.of(held)));
+        }
         printCounts();
     }
 }

@@ -475,13 +475,13 @@ public final class Reconfigures extends Expectations {
 
     private static List<String> files(Path folder) throws IOException {
         try (Stream<Path> files = Files.list(folder)) {
-            return files.map(file -> file.getFileName().toString()).filter(name -> !name.startsWith("segment")).sorted().collect(Collectors.toList());
+            return files.map(file -> file.getFileName().toString()).filter(name -> name.startsWith("settings")).sorted().collect(Collectors.toList());
         }
     }
 
     /** The settings are beside the segments that have them. */
     private static void inFolder(Path folder) throws Exception {
-        ZuphinkaPool<Item> pool = new ZuphinkaPool<>(new Bare(), config(4), null, Journal.inFolder(folder));
+        ZuphinkaPool<Item> pool = new ZuphinkaPool<>(new Bare(), config(4), null, Journal.inFolder(folder).storeEvery(Duration.ZERO));
         List<Item> lent = lend(pool, 4);
         pool.setMaxTotal(2);
         String fewer = pool.getSettingsText();
@@ -493,11 +493,11 @@ public final class Reconfigures extends Expectations {
         pool.setMaxTotal(8);
         pairs(pool, 1);
         pool.close();
+        Path stored = pool.getJournalFolder();
         expect("files of settings", List.of("settings-00000000000000000008.toml", "settings-00000000000000000010.toml",
-                "settings-00000000000000000016.toml", "settings.toml"), files(folder));
-        expect("the second", fewer, new String(Files.readAllBytes(folder.resolve("settings-00000000000000000008.toml")), StandardCharsets.UTF_8));
-        expect("the last", 8, maxTotalOf(new String(Files.readAllBytes(folder.resolve("settings-00000000000000000016.toml")),
-                StandardCharsets.UTF_8)));
+                "settings-00000000000000000016.toml", "settings.toml"), files(stored));
+        expect("the second", fewer, Files.readString(stored.resolve("settings-00000000000000000008.toml")));
+        expect("the last", 8, maxTotalOf(Files.readString(stored.resolve("settings-00000000000000000016.toml"))));
     }
 
     /** Notes what is swallowed. */

@@ -33,6 +33,8 @@ import org.apache.commons.pool2.impl.GenericObjectPoolConfig;
  */
 public final class Refusals extends Expectations {
     private static final int MOST = 12;
+    /** How many objects are abandoned at once. */
+    private static final int MANY = 2_000;
     /** Calls of several steps, of which those before the one that throws are taken. */
     private static final Set<String> CHANGING = Set.of("evict", "prepare", "clear", "close");
     /** Calls that must throw in some life, and calls that must throw in none. */
@@ -264,6 +266,48 @@ public final class Refusals extends Expectations {
         return throwing;
     }
 
+    /** Makes numbers, and keeps those that were destroyed. */
+    private static final class Numbers extends BasePooledObjectFactory<Integer> {
+        private final List<Integer> destroyed = new ArrayList<>();
+        private int next;
+
+        @Override
+        public Integer create() {
+            return next++;
+        }
+
+        @Override
+        public PooledObject<Integer> wrap(Integer number) {
+            return new DefaultPooledObject<>(number);
+        }
+
+        @Override
+        public void destroyObject(PooledObject<Integer> pooled) {
+            destroyed.add(pooled.getObject());
+        }
+    }
+
+    /** The removal of many abandoned objects asks once of each whether it is taken from its holder. */
+    private static void reclaim() throws Exception {
+        Numbers factory = new Numbers();
+        GenericObjectPoolConfig<Integer> config = new GenericObjectPoolConfig<>();
+        config.setJmxEnabled(false);
+        config.setMaxTotal(MANY);
+        AbandonedConfig abandoned = new AbandonedConfig();
+        abandoned.setRemoveAbandonedOnMaintenance(true);
+        abandoned.setRemoveAbandonedTimeout(Duration.ZERO);
+        ZuphinkaPool<Integer> pool = new ZuphinkaPool<>(factory, config, abandoned);
+        List<Integer> lent = new ArrayList<>();
+        while (lent.size() < MANY) {
+            lent.add(pool.borrowObject());
+        }
+        long before = Refusal.questions();
+        pool.evict();
+        expect("questions about abandoned objects", (long) MANY, Refusal.questions() - before);
+        expect("they are destroyed in their order", lent, factory.destroyed);
+        pool.close();
+    }
+
     /** Fills the heap until no segment has memory in it and the journal is full, and goes on once the heap is empty again. */
     private static void heap() throws Exception {
         long[] next = {0};
@@ -306,6 +350,7 @@ public final class Refusals extends Expectations {
             for (Kind kind : Kind.values()) {
                 throwing.addAll(lives(kind, Path.of(words[0])));
             }
+            reclaim();
             expect("calls that throw", THROWING, throwing.stream().filter(THROWING::contains).collect(Collectors.toSet()));
             expect("calls that never do", Set.of(), throwing.stream().filter(SAFE::contains).collect(Collectors.toSet()));
         }

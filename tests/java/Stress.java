@@ -283,7 +283,7 @@ public final class Stress {
         try {
             return random.nextInt(4) == 0 ? borrowWithin(random.nextInt(30)) : pool.borrowObject();
         } catch (IllegalStateException e) {
-            if (e.getMessage().equals("Journal full")) {
+            if (e.getMessage().startsWith("Journal full")) {
                 throw new NoSuchElementException("Another thread stores a segment for longer than a borrow waits");
             }
             throw e;

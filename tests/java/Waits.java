@@ -16,6 +16,7 @@ import java.util.concurrent.Semaphore;
 import java.util.concurrent.TimeUnit;
 import java.util.concurrent.atomic.AtomicBoolean;
 import java.util.concurrent.atomic.AtomicInteger;
+import java.util.concurrent.locks.LockSupport;
 import java.util.concurrent.locks.ReentrantLock;
 import org.apache.commons.pool2.PooledObject;
 import org.apache.commons.pool2.impl.AbandonedConfig;
@@ -33,6 +34,9 @@ public final class Waits extends Expectations {
     private static final int FILLS = 10;
     /** How long another thread has to find the lock held. */
     private static final long PATIENCE_MILLIS = 100;
+
+    /** What a borrow throws if the segments that wait for a slow sink take too much memory. */
+    private static final String SLOW = "IllegalStateException: Journal full: its sink is slow";
 
     private Waits() {}
 
@@ -113,7 +117,7 @@ public final class Waits extends Expectations {
             FutureTask<Object> storing = begun(() -> loans(pool, 20));
             sink.entered.await();
             expect("loans beside a store", "done", within(begun(() -> loans(pool, 5))));
-            String full = "IllegalStateException: Journal full";
+            String full = SLOW;
             expect("a borrow that waits for a millisecond", full, within(begun(() -> untilFull(pool))));
             expect("a borrow that does not wait", full, within(begun(() -> pool.borrowObject(0))));
             FutureTask<Object> waiting = begun(() -> loans(pool, 5));
@@ -141,6 +145,24 @@ public final class Waits extends Expectations {
         }
     }
 
+    /** A store that lasts longer than a borrow may wait keeps no borrow from its object: the segments after it wait in memory. */
+    private static void healthySink() throws Exception {
+        SlowSink sink = new SlowSink();
+        List<Long> stored = new ArrayList<>();
+        ZuphinkaPool<Object> pool = pool(1, Journal.storedBy(segment -> {
+            sink.store(segment);
+            stored.add(segment.entries());
+        }).limit(100));
+        pool.setMaxWait(Duration.ofMillis(1));
+        FutureTask<Object> storing = begun(() -> loans(pool, 20));
+        sink.entered.await();
+        expect("loans beside a store, of many times the room", "done", within(begun(() -> loans(pool, 2_000))));
+        sink.told.release();
+        expect("the thread that stores", "done", within(storing));
+        pool.close();
+        expect("no entry is lost", pool.getCounts().steps(), stored.stream().mapToLong(Long::longValue).sum());
+    }
+
     /** A borrow that may not wait for an object waits for no thread that stores a segment. */
     private static void noWaitBesideAStore() throws Exception {
         SlowSink sink = new SlowSink();
@@ -150,7 +172,7 @@ public final class Waits extends Expectations {
         ZuphinkaPool<Object> pool = new ZuphinkaPool<>(new Plain(), config, null, Journal.storedBy(sink).limit(100));
         FutureTask<Object> storing = begun(() -> loans(pool, 20));
         sink.entered.await();
-        String full = "IllegalStateException: Journal full";
+        String full = SLOW;
         expect("a journal without room", full, within(begun(() -> untilFull(pool))));
         expect("a borrow that may not wait", full, within(begun(pool::borrowObject)));
         expect("one with a limit", full, within(begun(() -> pool.borrowObject(Duration.ofDays(1)))));
@@ -182,7 +204,7 @@ public final class Waits extends Expectations {
         });
         FutureTask<Object> storing = begun(() -> loans(pool, 20));
         sink.entered.await();
-        expect("a journal without room", "IllegalStateException: Journal full", within(begun(() -> untilFull(pool))));
+        expect("a journal without room", SLOW, within(begun(() -> untilFull(pool))));
         List<FutureTask<Object>> waiting = new ArrayList<>();
         for (Act act : acts) {
             Thread[] thread = new Thread[1];
@@ -209,7 +231,7 @@ public final class Waits extends Expectations {
         ZuphinkaPool<Object> pool = pool(8, Journal.storedBy(sink).limit(100));
         FutureTask<Object> storing = begun(() -> loans(pool, 20));
         sink.entered.await();
-        expect("a journal without room", "IllegalStateException: Journal full", within(begun(() -> untilFull(pool))));
+        expect("a journal without room", SLOW, within(begun(() -> untilFull(pool))));
         Thread[] thread = new Thread[1];
         FutureTask<Object> waiting = begun(() -> {
             thread[0] = Thread.currentThread();
@@ -403,6 +425,56 @@ public final class Waits extends Expectations {
             return ended.get() == null;
         });
         expect("a thread that has ended", null, ended.get());
+        pool.close();
+    }
+
+    /** A thread that borrows, and is stopped by an error where it is asked whether it is interrupted. */
+    private static final class Stopped extends Thread {
+        private final ZuphinkaPool<Object> pool;
+        private volatile boolean isStopped;
+        private volatile Object got;
+
+        Stopped(ZuphinkaPool<Object> pool) {
+            this.pool = pool;
+            setDaemon(true);
+        }
+
+        @Override
+        public void run() {
+            got = result(pool::borrowObject);
+        }
+
+        @Override
+        public boolean isInterrupted() {
+            if (isStopped) {
+                throw new Error("stopped");
+            }
+            return super.isInterrupted();
+        }
+
+        void end() throws InterruptedException {
+            isStopped = true;
+            LockSupport.unpark(this);
+            join(LONGEST_MILLIS);
+        }
+    }
+
+    /** A thread that an error stops while it waits leaves nothing behind: more loans follow than may overtake it. */
+    private static void stoppedThread() throws Exception {
+        ZuphinkaPool<Object> pool = pool(1, Journal.dropped());
+        Object lent = pool.borrowObject();
+        Stopped waiter = new Stopped(pool);
+        waiter.start();
+        until(() -> pool.getNumWaiters() == 1);
+        waiter.end();
+        expect("a thread that is stopped", "Error: stopped", waiter.got);
+        expect("nobody waits for it", 0, pool.getNumWaiters());
+        pool.returnObject(lent);
+        expect("loans after it", "done", ending(() -> {
+            for (int loan = 0; loan <= pool.getMaxOvertakes(); loan++) {
+                pool.returnObject(pool.borrowObject(0));
+            }
+        }));
         pool.close();
     }
 
@@ -653,6 +725,37 @@ public final class Waits extends Expectations {
         pool.close();
     }
 
+    /** An eviction run on a heap that is full since a policy was first asked costs no place. */
+    private static void policyOnFullHeap(Plain factory) throws Exception {
+        AtomicBoolean isToFill = new AtomicBoolean();
+        GenericObjectPoolConfig<Object> config = new GenericObjectPoolConfig<>();
+        config.setJmxEnabled(false);
+        config.setNumTestsPerEvictionRun(config.getMaxTotal());
+        config.setEvictionPolicy((settings, pooled, idle) -> {
+            if (isToFill.getAndSet(false)) {
+                Queueing.fillHeap();
+            }
+            return false;
+        });
+        ZuphinkaPool<Object> pool = new ZuphinkaPool<>(factory, config);
+        for (int made = 0; made < config.getMaxTotal(); made++) {
+            pool.addObject();
+        }
+        pool.evict(); // its classes are loaded then
+        isToFill.set(true);
+        Throwable thrown = null;
+        try {
+            pool.evict();
+        } catch (OutOfMemoryError e) {
+            thrown = e;
+        }
+        Queueing.emptyHeap();
+        expect("a run on a full heap", null, thrown);
+        expect("its heap was filled", false, isToFill.get());
+        expect("after it", "8 idle, 0 active, 8 created, 0 destroyed", counts(pool));
+        pool.close();
+    }
+
     public static void main(String[] words) throws Exception {
         if (words.length > 0) {
             heldLockOnFullHeap();
@@ -661,6 +764,8 @@ public final class Waits extends Expectations {
             threadsOnFullHeap(new Plain());
             threadsOnFullHeap(new Hooked());
             wrapperOnFullHeap();
+            policyOnFullHeap(new Plain());
+            policyOnFullHeap(new Hooked());
             printCounts();
             return;
         }
@@ -669,6 +774,7 @@ public final class Waits extends Expectations {
         arrival();
         fullJournal();
         slowSink();
+        healthySink();
         noWaitBesideAStore();
         closeBesideAStore();
         cutBesideAStore();
@@ -677,6 +783,7 @@ public final class Waits extends Expectations {
         sinkBesideThePool();
         failingSink();
         endedThread();
+        stoppedThread();
         printCounts();
     }
 }

@@ -12,7 +12,7 @@ use std::time::Duration;
 use tokio::runtime;
 use tokio::task::spawn_blocking;
 use tokio::time::{sleep, timeout};
-use zuphinka::{Async, AsyncManager, Builder, Journal, Pool};
+use zuphinka::{Async, AsyncManager, Builder, Error, Journal, Pool};
 
 const SHORT: Duration = Duration::from_millis(20);
 const FOR_EVER: Duration = Duration::from_secs(3_600);
@@ -106,6 +106,22 @@ fn a_timeout_bounds_a_wait_and_loses_nothing() {
         drop(held);
         let next = timeout(LONGEST, pool.get_async()).await;
         drop(next.unwrap().unwrap());
+    });
+    assert_eq!(pool.counts().lent, 0);
+    assert_legal(&pool);
+}
+
+#[test]
+fn a_timer_is_the_limit_of_a_borrow() {
+    let (pool, _) = pool_of(1, |builder| builder.max_wait(Duration::from_millis(1)));
+    run(async {
+        let held = pool.get_async().await.unwrap();
+        let late = tokio::spawn(pool.get_async_until(sleep(SHORT)));
+        assert!(matches!(late.await.unwrap(), Err(Error::TimedOut(_))));
+        let in_time = tokio::spawn(pool.get_async_until(sleep(LONGEST)));
+        sleep(SHORT).await;
+        drop(held);
+        assert!(in_time.await.unwrap().is_ok());
     });
     assert_eq!(pool.counts().lent, 0);
     assert_legal(&pool);

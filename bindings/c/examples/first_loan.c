@@ -19,7 +19,7 @@ static void destroy(void *context, void *object) {
 }
 
 int main(void) {
-  struct zuphinka_pool_host host = {.make = make, .destroy = destroy};
+  struct zuphinka_pool_host host = {.size = sizeof host, .make = make, .destroy = destroy};
   struct zuphinka_pool *pool;
   struct zuphinka_pool_loan loan;
   if (zuphinka_pool_open(&pool, "maxTotal = 2", 12, &host, ZUPHINKA_POOL_JOURNAL_OFF)) return 1;

@@ -222,7 +222,7 @@ static bool store_settings(void) {
 }
 
 static bool open_pool(void) {
-  struct zuphinka_pool_host host = {.make = make, .validate = validate, .destroy = destroy, .store = store};
+  struct zuphinka_pool_host host = {.size = sizeof host, .make = make, .validate = validate, .destroy = destroy, .store = store};
   return is_done(zuphinka_pool_open(&pool, settings, strlen(settings), &host, ZUPHINKA_POOL_JOURNAL_SEGMENTS), "opening");
 }
 

@@ -142,7 +142,7 @@ static void maintain(void) {
 
 static bool open_pool(const char *path, char *folder) {
   static char settings[LONGEST_SETTINGS + 1];
-  struct zuphinka_pool_host host = {.context = folder, .make = make, .destroy = destroy, .store = store};
+  struct zuphinka_pool_host host = {.size = sizeof host, .context = folder, .make = make, .destroy = destroy, .store = store};
   FILE *file = fopen(path, "rb");
   if (!file) return false;
   size_t length = fread(settings, 1, sizeof settings, file);

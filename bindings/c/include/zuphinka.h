@@ -235,7 +235,7 @@ struct zuphinka_options {
   uint64_t pool;          /* the host's number of the pool: its calls bear it, and no call of a pool with another number is taken */
   uint64_t max_overtakes; /* how often a borrow that waits is overtaken at most, by borrows that begin later; 0: never; from 2^31 - 1 on: any number */
   bool activates;         /* the host has work to activate an object that is to be lent */
-  bool validates;         /* it tests objects; otherwise each passes */
+  bool validates;         /* it tests objects; otherwise each passes, and only an eviction run by testWhileIdle asks for a test, which it reports as passed */
   bool passivates;        /* it has work to passivate an object that is to be idle */
   bool drops_journal;     /* the stored entries are forgotten once they are many beside the objects, or leave no room for a step */
 };

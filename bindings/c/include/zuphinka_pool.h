@@ -64,12 +64,12 @@ enum zuphinka_pool_error {
   ZUPHINKA_POOL_ERROR_NO_PLACE = 9,           /* no place is free for a new object */
   ZUPHINKA_POOL_ERROR_GONE = 10,              /* the object was reclaimed from its holder */
   ZUPHINKA_POOL_ERROR_NOT_LENT = 11,          /* the loan ended before */
-  ZUPHINKA_POOL_ERROR_IN_USE = 12,            /* objects are lent, or a call is in progress */
+  ZUPHINKA_POOL_ERROR_IN_USE = 12,            /* the pool ends while objects are lent, or a call is in progress */
   ZUPHINKA_POOL_ERROR_JOURNAL_FULL = 13,      /* the journal has no room */
   ZUPHINKA_POOL_ERROR_STORE_FAILED = 14,      /* `store` failed; the pool keeps the segment for the next try */
   ZUPHINKA_POOL_ERROR_OUT_OF_MEMORY = 15,     /* an allocation failed */
   ZUPHINKA_POOL_ERROR_NO_LOCK = 16,           /* the system gave no mutex or condition variable */
-  ZUPHINKA_POOL_ERROR_MISSING_CALLBACK = 17,  /* `make` or `destroy` is null, or `store` if the journal is stored in segments */
+  ZUPHINKA_POOL_ERROR_MISSING_CALLBACK = 17,  /* `make` or `destroy` is null; or so is `store`, for a journal in segments, or `leak` beside its time */
   ZUPHINKA_POOL_ERROR_NOT_TEXT = 18,          /* the settings are not UTF-8 */
   ZUPHINKA_POOL_ERROR_NOT_TOML = 19,          /* the settings are not a TOML document */
   ZUPHINKA_POOL_ERROR_UNKNOWN_KEY = 20,       /* the settings have an unknown key; `zuphinka_settings` names the key of these three */
@@ -78,7 +78,9 @@ enum zuphinka_pool_error {
   ZUPHINKA_POOL_ERROR_NULL_POINTER = 23,      /* the place for the pool, the settings or the host is null */
   ZUPHINKA_POOL_ERROR_UNKNOWN_JOURNAL = 24,   /* the use of the journal is none of `enum zuphinka_pool_journal` */
   ZUPHINKA_POOL_ERROR_FOREIGN = 25,           /* the loan is one of another pool */
-  ZUPHINKA_POOL_ERROR_BUFFER_TOO_SMALL = 26   /* the text does not fit into the buffer */
+  ZUPHINKA_POOL_ERROR_BUFFER_TOO_SMALL = 26,  /* the text does not fit into the buffer */
+  ZUPHINKA_POOL_ERROR_UNKNOWN_SIZE = 27,      /* the library knows no `struct zuphinka_pool_host` of the size that the host has in it */
+  ZUPHINKA_POOL_ERROR_STORING = 28            /* `store` called it, and the journal is not cut while a segment of it is stored */
 };
 
 /* The use of the journal, as explained above. */
@@ -87,8 +89,11 @@ enum zuphinka_pool_journal { ZUPHINKA_POOL_JOURNAL_OFF = 0, ZUPHINKA_POOL_JOURNA
 /* Takes a segment: `size` bytes of text, whose first entry has position `first` in the history. Returns whether it has stored all of it. */
 typedef bool zuphinka_pool_store(void *context, uint64_t first, const char *text, size_t size);
 
-/* The callbacks of a host, and what it chooses. Each callback gets `context`. Those that return bool return whether they succeeded. */
+/* The callbacks of a host, and what it chooses. Each callback gets `context`. Those that return bool return whether they succeeded. Members that are 0
+ * or null are as if they were not there, so name those that you set: `struct zuphinka_pool_host host = {.size = sizeof host, .make = make, ..};` */
 struct zuphinka_pool_host {
+  size_t size; /* `sizeof host`: a library that knows more members takes them as 0 then */
+
   void *context; /* any pointer, null included */
 
   /* Makes an object and stores it in `object`, any pointer. Its `id` in the journal is never used again. If it fails there is no object. */
@@ -122,6 +127,19 @@ struct zuphinka_pool_host {
 
   /* Whether no borrow overtakes a thread that waits, whatever `max_overtakes` says. */
   bool is_fair;
+
+  /* The age at which objects are destroyed, in milliseconds by the pool's clock since they were made; 0: at none. An object of that age or more is not
+   * lent: a borrow destroys it and tries the next one. So does its return, and an eviction run if testWhileIdle is set. No object is taken from its
+   * holder. In the journal it failed to be activated, tested or passivated. */
+  uint64_t max_lifetime_ms;
+
+  /* The time after which a loan is reported to `leak`, in milliseconds by the pool's clock; 0: never. */
+  uint64_t leak_after_ms;
+
+  /* Reports a loan that has lasted for `leak_after_ms`, once: the object's `id` in the journal, the number of the thread that borrowed it, as
+   * `zuphinka_pool_caller` returns it there, and the time at which it was lent. `zuphinka_pool_maintain` looks for such loans, and nothing else does. The
+   * loan may end at the same time. May be null if `leak_after_ms` is 0. */
+  void (*leak)(void *context, uint64_t id, uint32_t borrower, uint64_t since);
 };
 
 /*
@@ -165,8 +183,8 @@ struct zuphinka_pool_maintenance {
  * Opens a pool with settings from a text, a TOML document of `length` bytes (docs/guide/settings.md; of no bytes: all defaults), and stores it in
  * `pool`. It copies `host`, and makes no object yet.
  *
- * Errors, and `pool` is unchanged: ZUPHINKA_POOL_ERROR_NULL_POINTER, also for settings of no bytes; _UNKNOWN_JOURNAL, _MISSING_CALLBACK,
- * _NOT_TEXT, _NOT_TOML, _UNKNOWN_KEY, _WRONG_TYPE, _OUT_OF_RANGE, _NO_LOCK, _OUT_OF_MEMORY.
+ * Errors, and `pool` is unchanged: ZUPHINKA_POOL_ERROR_NULL_POINTER, also for settings of no bytes; _UNKNOWN_SIZE, _UNKNOWN_JOURNAL,
+ * _MISSING_CALLBACK, _NOT_TEXT, _NOT_TOML, _UNKNOWN_KEY, _WRONG_TYPE, _OUT_OF_RANGE, _NO_LOCK, _OUT_OF_MEMORY.
  */
 enum zuphinka_pool_error zuphinka_pool_open(struct zuphinka_pool **pool, const char *settings, size_t length,
                                             const struct zuphinka_pool_host *host, enum zuphinka_pool_journal journal);
@@ -245,9 +263,9 @@ enum zuphinka_pool_error zuphinka_pool_evict(struct zuphinka_pool *pool, struct 
 enum zuphinka_pool_error zuphinka_pool_reclaim(struct zuphinka_pool *pool, uint64_t *reclaimed);
 
 /*
- * Maintains the pool: evicts, reclaims and fills. If the journal is stored in segments and less than half of its room is left, it stores a
- * segment first. Call it now and then, from one thread. Stores in `done`, unless it is null, what it did, also after an error. It stops at the
- * first error.
+ * Maintains the pool: reports the loans that last too long (`leak`), also of a closed pool; then evicts, reclaims and fills. If the journal is stored in
+ * segments and less than half of its room is left, it stores a segment before that. Call it now and then, from one thread. Stores in `done`, unless it
+ * is null, what it did, also after an error. It stops at the first error.
  *
  * Errors: those of the three calls. A segment that can't be stored is tried again later.
  */
@@ -307,7 +325,7 @@ bool zuphinka_pool_is_low(struct zuphinka_pool *pool);
  * Without entries it does nothing. The text is copied while the pool lends, and `store` runs without the lock. One cut runs at a time.
  *
  * Errors: ZUPHINKA_POOL_ERROR_STORE_FAILED: the pool keeps the segment for the next cut. ZUPHINKA_POOL_ERROR_OUT_OF_MEMORY: the journal isn't
- * cut. ZUPHINKA_POOL_ERROR_IN_USE: `store` called it. Nothing is lost.
+ * cut. ZUPHINKA_POOL_ERROR_STORING: `store` called it. Nothing is lost.
  */
 enum zuphinka_pool_error zuphinka_pool_cut(struct zuphinka_pool *pool, zuphinka_pool_store *store, void *context, uint64_t *entries);
 
@@ -323,7 +341,7 @@ enum zuphinka_pool_error zuphinka_pool_cut(struct zuphinka_pool *pool, zuphinka_
  *
  * Errors, and the settings are as before: ZUPHINKA_POOL_ERROR_NULL_POINTER, also for settings of no bytes; _MISSING_CALLBACK, if there is no `store`;
  * _NOT_TEXT, _NOT_TOML, _UNKNOWN_KEY, _WRONG_TYPE, _OUT_OF_RANGE; _JOURNAL_FULL, if the new journalLimit leaves no room for the entries that end what
- * is in progress; _STORE_FAILED, of a segment that an earlier cut could not store; _OUT_OF_MEMORY; _IN_USE, if `store` called it.
+ * is in progress; _STORE_FAILED, of a segment that an earlier cut could not store; _OUT_OF_MEMORY; _STORING, if `store` called it.
  */
 enum zuphinka_pool_error zuphinka_pool_reconfigure(struct zuphinka_pool *pool, const char *settings, size_t length, zuphinka_pool_store *store,
                                                    void *context, uint64_t *first);

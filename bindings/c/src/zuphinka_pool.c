@@ -18,21 +18,17 @@
 
 #include "zuphinka_pool_errors.h"
 #include "zuphinka_pool_metrics.h"
+#include "zuphinka_pool_places.h"
 #include "zuphinka_pool_segments.h"
 #include "zuphinka_pool_sleep.h"
 
 enum {
   CUT = 256, /* the condition of threads that wait for a cut; those before it are for threads that wait for an object */
   CONDITIONS,
-  FIRST_PLACES = 16,   /* of loans */
   MOST_OVERTAKES = 64, /* of a borrow that waits, if the host doesn't say */
   MOST_LINES = 256,    /* that are copied in one critical section */
   TRIES = 16,          /* allocations that fail one after the other before a copy gives up */
-};
-
-/* A place of a loan: its number, or 0 while a call begins or ends it, and when its object was lent, in nanoseconds; or the next free place. */
-struct place {
-  uint64_t number, lent_at;
+  LAG = 10,            /* milliseconds by which the host's clock may be behind before a wait ends that is not over by it, and so without an entry */
 };
 
 struct zuphinka_pool {
@@ -44,18 +40,18 @@ struct zuphinka_pool {
   int64_t opened;
   pid_t process; /* the process that opened the pool */
 
-  struct segment unstored; /* of the thread that cuts, or of the lock if none does */
+  struct segment unstored; /* of the thread that cuts, which needs no lock for it; of the lock if none does */
 
   pthread_mutex_t lock; /* of all that follows */
   struct zuphinka core;
   struct measures measures;
-  struct place *places;    /* of loans */
-  uint64_t capacity, free; /* how many places there are; the first free one, or `capacity` */
-  uint64_t last_loan;      /* its number, which is greater than that of any place */
-  uint64_t cuts;           /* how often the journal was cut */
-  uint64_t low;            /* the room below which a segment is stored */
-  bool blocks;             /* of the setting blockWhenExhausted: whether a borrow waits */
-  uint64_t cutter;         /* the thread that cuts the journal or stores what was cut off, which no other one may: its number and 1; 0: none */
+  struct places places;
+  uint64_t last_loan;   /* its number */
+  uint64_t cuts;        /* how often the journal was cut */
+  uint64_t low;         /* the room below which a segment is stored */
+  bool blocks;          /* of the setting blockWhenExhausted: whether a borrow waits */
+  int64_t longest_wait; /* of the setting maxWaitMillis: for how long, in milliseconds; negative: without a limit */
+  uint64_t cutter;      /* the thread that cuts the journal or stores what was cut off, which no other one may: its number and 1; 0: none */
   struct condition conditions[CONDITIONS]; /* a thread that waits for an object has that of its ticket, alone if not very many wait */
 };
 
@@ -65,9 +61,14 @@ struct run {
   struct zuphinka_effects next; /* what the thread does next */
   struct zuphinka_event event;  /* what became of its last action */
   struct moment first, at;      /* when the clock was first and last read */
+  int64_t began;                /* when its wait began at the earliest, besides what the host's clock says; 0: the pool has a clock of its own */
   uint64_t wakes;               /* of the condition that it is to sleep on, before that */
   int64_t limit;                /* when it waits no longer, besides what the settings say */
   const struct zuphinka_pool_loan *loan; /* whose use it notes, or null */
+  uint64_t place;               /* of the object of its last action, if that has one */
+  void *made;                   /* the object that it made last */
+  bool has_made;                /* it works on no object but those that it made, from then on */
+  bool lacks_memory;            /* for the place of an object that it was to make */
   bool has_cut;                 /* it cut the journal; the segment is to be stored once it is over */
 };
 
@@ -75,9 +76,8 @@ struct run {
 struct change {
   const char *text;
   size_t length;
-  uint64_t quarter; /* of their journalLimit */
-  bool blocks;      /* of their blockWhenExhausted */
-  uint64_t first;   /* once it is made: the position of the first entry with these settings */
+  struct zuphinka_setup setup;
+  uint64_t first; /* once it is made: the position of the first entry with these settings */
   bool is_made;
 };
 
@@ -89,6 +89,13 @@ static struct moment time_of(const struct zuphinka_pool *pool) {
   if (!pool->host.now) return (struct moment){passed / (uint64_t)MILLISECOND, passed};
   uint64_t now = pool->host.now(pool->host.context);
   return (struct moment){now, now * (uint64_t)MILLISECOND};
+}
+
+/* Reads the clock without the lock, for a call that begins then. */
+static void read_clock(const struct zuphinka_pool *pool, struct run *run) {
+  run->at = time_of(pool);
+  run->start.at = run->event.at = run->at.milliseconds;
+  run->began = pool->host.now ? monotonic() : 0;
 }
 
 uint32_t zuphinka_pool_caller(void) {
@@ -107,10 +114,17 @@ static void unlock(struct zuphinka_pool *pool) { pthread_mutex_unlock(&pool->loc
 
 static struct condition *condition_of(struct zuphinka_pool *pool, uint64_t ticket) { return &pool->conditions[ticket % CUT]; }
 
+/* Returns when the wait of a call ends at the latest, with the lock held: by its caller, or by the settings if the host's clock goes back or stands. */
+static int64_t latest_end(const struct zuphinka_pool *pool, const struct run *run) {
+  if (!run->began || !run->next.has_until || pool->longest_wait < 0) return run->limit;
+  return least(run->limit, run->began + in_nanoseconds((uint64_t)pool->longest_wait) + LAG * MILLISECOND);
+}
+
 /* Returns when the wait of a call ends, by the settings or by its caller. */
-static int64_t end_of_wait(const struct run *run) {
-  if (!run->next.has_until) return run->limit;
-  return least(run->limit, after(run->next.until > run->event.at ? run->next.until - run->event.at : 0));
+static int64_t end_of_wait(const struct zuphinka_pool *pool, const struct run *run) {
+  int64_t latest = latest_end(pool, run);
+  if (!run->next.has_until) return latest;
+  return least(latest, after(run->next.until > run->event.at ? run->next.until - run->event.at : 0));
 }
 
 /* Returns what is true of a pool at one time, with the lock held. */
@@ -126,8 +140,9 @@ static struct snapshot look(struct zuphinka_pool *pool) {
 static uint32_t wait_for_wake(struct zuphinka_pool *pool, const struct run *run) {
   struct condition *condition = condition_of(pool, run->next.ticket);
   bool is_at_end = run->next.has_until && run->next.until <= run->event.at; /* of the clock, since its time is not over */
-  int64_t now = monotonic(), end = is_at_end ? run->limit : end_of_wait(run), end_of_pause = least(now + ALL_PAUSES, end);
-  if (run->limit <= now) return ZUPHINKA_REPORT_GIVEN_UP;
+  int64_t now = monotonic(), latest = latest_end(pool, run);
+  int64_t end = is_at_end ? latest : end_of_wait(pool, run), end_of_pause = least(now + ALL_PAUSES, end);
+  if (latest <= now) return ZUPHINKA_REPORT_GIVEN_UP;
   struct snapshot seen = look(pool);
   if (seen.counts.lent + seen.state.running <= pool->processors) {
     unlock(pool);
@@ -140,32 +155,11 @@ static uint32_t wait_for_wake(struct zuphinka_pool *pool, const struct run *run)
 
 /* ---- loans */
 
-/* Takes a place for a loan. Returns whether there is memory for it. */
-static bool take_place(struct zuphinka_pool *pool, uint64_t *place) {
-  if (pool->free == pool->capacity) {
-    uint64_t capacity = 2 * pool->capacity + FIRST_PLACES;
-    struct place *places = realloc(pool->places, capacity * sizeof *places);
-    if (!places) return false;
-    for (uint64_t n = pool->capacity; n < capacity; n++) places[n].number = n + 1;
-    pool->places = places;
-    pool->capacity = capacity;
-  }
-  *place = pool->free;
-  pool->free = pool->places[*place].number;
-  pool->places[*place].number = 0;
-  return true;
-}
-
-static void free_place(struct zuphinka_pool *pool, uint64_t place) {
-  pool->places[place].number = pool->free;
-  pool->free = place;
-}
-
 /* Returns why there is no such loan, with the lock held. */
 static enum zuphinka_pool_error error_of_loan(const struct zuphinka_pool *pool, const struct zuphinka_pool_loan *loan) {
   if (loan->id == ZUPHINKA_POOL_NO_LOAN) return ZUPHINKA_POOL_ERROR_NOT_LENT;
   if (loan->pool != pool->number) return ZUPHINKA_POOL_ERROR_FOREIGN;
-  bool is_lent = loan->place < pool->capacity && pool->places[loan->place].number == loan->number;
+  bool is_lent = loan->place < pool->places.capacity && pool->places.all[loan->place].number == loan->number;
   return is_lent ? ZUPHINKA_POOL_ERROR_NONE : ZUPHINKA_POOL_ERROR_NOT_LENT;
 }
 
@@ -177,6 +171,12 @@ static void wake_more(struct zuphinka_pool *pool) {
   while (zuphinka_next_wake(&pool->core, &ticket) == ZUPHINKA_STATUS_DONE) wake(condition_of(pool, ticket));
 }
 
+/* Takes from settings how borrows wait. */
+static void take_waits(struct zuphinka_pool *pool, const struct zuphinka_setup *setup) {
+  pool->blocks = setup->block_when_exhausted;
+  pool->longest_wait = setup->max_wait_millis;
+}
+
 /* Cuts the stored entries off, with the lock held. If there is a change of the settings, makes it. Returns the status. */
 static uint32_t cut_off(struct zuphinka_pool *pool, struct change *change) {
   uint32_t status = change ? zuphinka_reconfigure(&pool->core, change->text, change->length) : zuphinka_cut(&pool->core);
@@ -186,8 +186,8 @@ static uint32_t cut_off(struct zuphinka_pool *pool, struct change *change) {
   if (!change) return status;
   change->is_made = true;
   change->first = look(pool).counts.steps;
-  pool->low = pool->quarter = change->quarter;
-  pool->blocks = change->blocks;
+  pool->low = pool->quarter = change->setup.journal_limit / 4;
+  take_waits(pool, &change->setup);
   wake_more(pool);
   return status;
 }
@@ -261,8 +261,7 @@ static void keep_room(struct zuphinka_pool *pool, struct run *run) {
   if (!is_due) return;
   cut_and_store(pool, pool->host.store, pool->host.context, NULL, NULL);
   unlock(pool);
-  run->at = time_of(pool);
-  run->start.at = run->event.at = run->at.milliseconds;
+  read_clock(pool, run);
   lock(pool);
 }
 
@@ -275,7 +274,7 @@ static bool is_refused(struct zuphinka_pool *pool, uint32_t kind) {
 /* Returns until when a call waits for a cut: a borrow as long as for an object, and so not at all if the settings say that none waits. */
 static int64_t end_of_wait_for_cut(const struct zuphinka_pool *pool, const struct run *run) {
   if (!run) return NEVER;
-  return run->start.kind == ZUPHINKA_KIND_BORROW && !pool->blocks ? AT_ONCE : end_of_wait(run);
+  return run->start.kind == ZUPHINKA_KIND_BORROW && !pool->blocks ? AT_ONCE : end_of_wait(pool, run);
 }
 
 /* Sleeps while another thread cuts the journal or stores what was cut off. If it is for a call, it ends once the journal was cut, or the pool refuses
@@ -304,7 +303,7 @@ static void cut_alone(struct zuphinka_pool *pool, struct run *run) {
 
 /* Stores what a call that is over has cut off, with the lock held before and after, and not meanwhile. */
 static void store_cut(struct zuphinka_pool *pool, const struct run *run) {
-  bool is_left = run->has_cut && pool->unstored.text && !pool->cutter;
+  bool is_left = run->has_cut && !pool->cutter && pool->unstored.text;
   if (is_left) cut_and_store(pool, pool->host.store, pool->host.context, NULL, NULL);
 }
 
@@ -326,8 +325,8 @@ static uint32_t make_room(struct zuphinka_pool *pool, struct run *run) {
 /* A call begins now. It lacks memory if it does not get on. */
 static void begin_run(const struct zuphinka_pool *pool, struct run *run) {
   run->next.end = ZUPHINKA_END_OUT_OF_MEMORY;
-  run->first = run->at = time_of(pool);
-  run->start.at = run->event.at = run->at.milliseconds;
+  read_clock(pool, run);
+  run->first = run->at;
   run->start.caller = run->event.caller = zuphinka_pool_caller();
 }
 
@@ -339,6 +338,7 @@ static enum zuphinka_pool_error error_of_end(struct zuphinka_pool *pool, const s
   bool is_done = end == ZUPHINKA_END_LENT || end == ZUPHINKA_END_PARKED || end == ZUPHINKA_END_NOTED || end == ZUPHINKA_END_COMPLETE;
   if (is_done || (end == ZUPHINKA_END_DESTROYED && !makes)) return ZUPHINKA_POOL_ERROR_NONE;
   if (end == ZUPHINKA_END_DESTROYED) return ZUPHINKA_POOL_ERROR_CLOSED;
+  if (end == ZUPHINKA_END_MAKE_FAILED && run->lacks_memory) end = ZUPHINKA_END_OUT_OF_MEMORY;
   bool is_over = end == ZUPHINKA_END_CANCELLED || end == ZUPHINKA_END_TIMED_OUT;
   if (is_over) return run->limit == AT_ONCE ? ZUPHINKA_POOL_ERROR_EXHAUSTED : ZUPHINKA_POOL_ERROR_TIMED_OUT;
   enum zuphinka_pool_error error = find_error(end, ZUPHINKA_STATUS_DONE);
@@ -349,24 +349,60 @@ static enum zuphinka_pool_error error_of_end(struct zuphinka_pool *pool, const s
   abort();
 }
 
+/* Returns the place that the library has as the token of an object, and back. */
+static uint64_t place_of(const void *token) { return (uint64_t)(uintptr_t)token; }
+static void *token_of(uint64_t place) { return (void *)(uintptr_t)place; }
+
+/* Finds the object of the next action, or a place for the one to make, with the lock held. Returns the object, or null if it is to be made. */
+static void *object_of_action(struct zuphinka_pool *pool, struct run *run) {
+  uint32_t action = run->next.action;
+  if (action == ZUPHINKA_ACTION_MAKE) run->lacks_memory = !take_place(&pool->places, &run->place);
+  if (action < ZUPHINKA_ACTION_ACTIVATE || action > ZUPHINKA_ACTION_DESTROY) return NULL;
+  run->place = place_of(run->next.object);
+  return pool->places.all[run->place].object;
+}
+
+/* Returns whether the object that is to be activated, tested or passivated is too old, with the lock held. One that the call has made is not. */
+static bool is_too_old(const struct zuphinka_pool *pool, const struct run *run) {
+  uint64_t most = pool->host.max_lifetime_ms;
+  bool is_kept = run->next.action >= ZUPHINKA_ACTION_ACTIVATE && run->next.action <= ZUPHINKA_ACTION_PASSIVATE;
+  return most > 0 && is_kept && !run->has_made && has_lasted(pool->places.all[run->place].made, run->at.milliseconds, most);
+}
+
 /* Takes the next action of a call, with the lock held before and not after, nor while a callback runs. Returns the report. */
 static uint32_t act(struct zuphinka_pool *pool, struct run *run) {
   const struct zuphinka_pool_host *host = &pool->host;
-  void *context = host->context, *object = run->next.object;
+  void *context = host->context, *object = object_of_action(pool, run);
   uint32_t action = run->next.action, report = ZUPHINKA_REPORT_GO_ON;
-  bool succeeds = true;
+  bool succeeds = true, is_old = is_too_old(pool, run);
   if (action == ZUPHINKA_ACTION_SLEEP) report = wait_for_wake(pool, run);
   if (action == ZUPHINKA_ACTION_MAKE_ROOM) report = make_room(pool, run);
   unlock(pool);
+  if (is_old) return ZUPHINKA_REPORT_FAILED;
   switch (action) {
-    case ZUPHINKA_ACTION_MAKE: return host->make(context, run->next.number, &run->event.object) ? ZUPHINKA_REPORT_MADE : ZUPHINKA_REPORT_FAILED;
-    case ZUPHINKA_ACTION_ACTIVATE: succeeds = host->activate(context, object); break;
-    case ZUPHINKA_ACTION_VALIDATE: succeeds = host->validate(context, object); break;
-    case ZUPHINKA_ACTION_PASSIVATE: succeeds = host->passivate(context, object); break;
+    case ZUPHINKA_ACTION_MAKE:
+      succeeds = !run->lacks_memory && host->make(context, run->next.number, &run->made);
+      return succeeds ? ZUPHINKA_REPORT_MADE : ZUPHINKA_REPORT_FAILED;
+    case ZUPHINKA_ACTION_ACTIVATE: succeeds = !host->activate || host->activate(context, object); break;
+    case ZUPHINKA_ACTION_VALIDATE: succeeds = !host->validate || host->validate(context, object); break; /* an eviction run tests in any case */
+    case ZUPHINKA_ACTION_PASSIVATE: succeeds = !host->passivate || host->passivate(context, object); break;
     case ZUPHINKA_ACTION_DESTROY: host->destroy(context, object); break;
     default: return report;
   }
   return succeeds ? ZUPHINKA_REPORT_SUCCEEDED : ZUPHINKA_REPORT_FAILED;
+}
+
+/* Notes that the object of the last action was made or destroyed, or could not be made, with the lock held. */
+static void note_action(struct zuphinka_pool *pool, struct run *run) {
+  uint32_t action = run->next.action;
+  bool is_made = run->event.report == ZUPHINKA_REPORT_MADE;
+  if (is_made) {
+    pool->places.all[run->place] = (struct place){.object = run->made, .id = run->next.number, .made = run->at.milliseconds};
+    run->event.object = token_of(run->place);
+    run->has_made = true;
+  }
+  bool is_free = action == ZUPHINKA_ACTION_DESTROY || (action == ZUPHINKA_ACTION_MAKE && !is_made && !run->lacks_memory);
+  if (is_free) free_place(&pool->places, run->place);
 }
 
 /* Makes a borrow or a return that needs no callback and no wait, with the lock held. Returns whether it is over. */
@@ -396,6 +432,7 @@ static enum zuphinka_pool_error drive(struct zuphinka_pool *pool, struct run *ru
     run->at = time_of(pool);
     run->event.at = run->at.milliseconds;
     lock(pool);
+    note_action(pool, run);
     if (run->loan && error_of_loan(pool, run->loan)) run->event.report = ZUPHINKA_REPORT_GIVEN_UP; /* it ended meanwhile */
     status = zuphinka_advance(&pool->core, &call, &run->event, &run->next);
   }
@@ -404,26 +441,29 @@ static enum zuphinka_pool_error drive(struct zuphinka_pool *pool, struct run *ru
 
 /* ---- the calls */
 
+/* Returns the loan of an object that was lent by a call just now, with the lock held. */
+static struct zuphinka_pool_loan begin_loan(struct zuphinka_pool *pool, const struct run *run) {
+  uint64_t at = place_of(run->next.object), number = ++pool->last_loan;
+  struct place *place = &pool->places.all[at];
+  place->number = number;
+  place->lent = run->at;
+  place->borrower = run->start.caller;
+  place->is_reported = false;
+  measure(&pool->measures.waits, run->first.nanoseconds, run->at.nanoseconds);
+  return (struct zuphinka_pool_loan){place->object, run->next.number, pool->number, at, number};
+}
+
 static enum zuphinka_pool_error borrow(struct zuphinka_pool *pool, int64_t limit, struct zuphinka_pool_loan *loan) {
   struct run run = {.start = {.kind = ZUPHINKA_KIND_BORROW}, .limit = limit};
+  enum zuphinka_pool_error error = ZUPHINKA_POOL_ERROR_NONE;
   begin_run(pool, &run);
-  uint64_t place = 0;
   lock(pool);
   keep_room(pool, &run);
-  enum zuphinka_pool_error error = ZUPHINKA_POOL_ERROR_NONE;
-  bool has_place = take_place(pool, &place);
-  if (!has_place) error = error_of_end(pool, &run);
-  else if (!run_at_once(pool, &run)) {
+  if (!run_at_once(pool, &run)) {
     run.start.at += !pool->host.now && run.at.nanoseconds % (uint64_t)MILLISECOND > 0; /* its wait is as long as it is to be */
     error = drive(pool, &run);
   }
-  if (!error) {
-    pool->places[place] = (struct place){.number = ++pool->last_loan, .lent_at = run.at.nanoseconds};
-    *loan = (struct zuphinka_pool_loan){run.next.object, run.next.number, pool->number, place, pool->last_loan};
-    measure(&pool->measures.waits, run.first.nanoseconds, run.at.nanoseconds);
-  } else if (has_place) {
-    free_place(pool, place);
-  }
+  if (!error) *loan = begin_loan(pool, &run);
   pool->measures.timeouts += error == ZUPHINKA_POOL_ERROR_TIMED_OUT;
   if (error) store_cut(pool, &run); /* otherwise the next borrow does: this one's loan has begun */
   unlock(pool);
@@ -438,28 +478,43 @@ enum zuphinka_pool_error zuphinka_pool_get_timed(struct zuphinka_pool *pool, uin
   return borrow(pool, after(milliseconds), loan);
 }
 
-/* Ends a loan by a return or an invalidation. Meanwhile no copy of it is a loan. It has not ended if the call lacked something. */
+/* Destroys the object of a place, with the lock held before and after, and not meanwhile. */
+static void destroy_object(struct zuphinka_pool *pool, uint64_t place) {
+  void *object = pool->places.all[place].object;
+  unlock(pool);
+  pool->host.destroy(pool->host.context, object);
+  lock(pool);
+  free_place(&pool->places, place);
+}
+
+/* Ends the loan of the object of a place, with the lock held before and after. Meanwhile the object is not lent. Returns the error. */
+static enum zuphinka_pool_error end_loan_of(struct zuphinka_pool *pool, struct run *run, uint64_t place) {
+  const struct place before = pool->places.all[place];
+  enum zuphinka_pool_error error = ZUPHINKA_POOL_ERROR_NONE;
+  pool->places.all[place].number = 0;
+  run->start.id = before.id;
+  run->start.object = token_of(place);
+  if (!run_at_once(pool, run)) error = drive(pool, run);
+  if (!error) measure(&pool->measures.loans, before.lent.nanoseconds, run->first.nanoseconds);
+  if (!error || error == ZUPHINKA_POOL_ERROR_GONE) return error;
+  if (error == ZUPHINKA_POOL_ERROR_NOT_LENT) { /* it was reclaimed, before a change to settings that reclaim none */
+    destroy_object(pool, place);
+    return ZUPHINKA_POOL_ERROR_GONE;
+  }
+  pool->places.all[place].number = before.number; /* the call lacked something */
+  return error;
+}
+
+/* Ends a loan by a return or an invalidation. It is read under the lock, since another thread may end it too. */
 static enum zuphinka_pool_error end_loan(struct zuphinka_pool *pool, uint32_t kind, struct zuphinka_pool_loan *loan) {
-  struct run run = {.start = {.id = loan->id, .object = loan->object, .kind = kind}, .limit = NEVER};
-  uint64_t place = loan->place, number = loan->number;
+  struct run run = {.start = {.kind = kind}, .limit = NEVER};
   begin_run(pool, &run);
   lock(pool);
   enum zuphinka_pool_error error = error_of_loan(pool, loan);
   if (!error) {
-    pool->places[place].number = 0;
-    if (!run_at_once(pool, &run)) error = drive(pool, &run);
-    if (error == ZUPHINKA_POOL_ERROR_NOT_LENT) { /* it was reclaimed, before a change to settings that reclaim none */
-      unlock(pool);
-      pool->host.destroy(pool->host.context, run.start.object);
-      lock(pool);
-      error = ZUPHINKA_POOL_ERROR_GONE;
-    }
-    pool->places[place].number = number;
-    if (!error) measure(&pool->measures.loans, pool->places[place].lent_at, run.first.nanoseconds);
-    if (!error || error == ZUPHINKA_POOL_ERROR_GONE) {
-      free_place(pool, place);
-      *loan = (struct zuphinka_pool_loan){.id = ZUPHINKA_POOL_NO_LOAN};
-    }
+    error = end_loan_of(pool, &run, loan->place);
+    bool has_ended = !error || error == ZUPHINKA_POOL_ERROR_GONE;
+    if (has_ended) *loan = (struct zuphinka_pool_loan){.id = ZUPHINKA_POOL_NO_LOAN};
   }
   store_cut(pool, &run);
   unlock(pool);
@@ -474,34 +529,43 @@ enum zuphinka_pool_error zuphinka_pool_invalidate(struct zuphinka_pool *pool, st
   return end_loan(pool, ZUPHINKA_KIND_INVALIDATE, loan);
 }
 
-/* Makes a call that begins and ends no loan, for one or, if it is null, for none. Stores what it came to. */
-static enum zuphinka_pool_error call(struct zuphinka_pool *pool, uint32_t kind, const struct zuphinka_pool_loan *loan,
-                                     struct zuphinka_effects *last) {
-  struct run run = {.start = {.id = loan ? loan->id : 0, .kind = kind}, .limit = NEVER, .loan = loan};
+enum zuphinka_pool_error zuphinka_pool_touch(struct zuphinka_pool *pool, const struct zuphinka_pool_loan *loan) {
+  struct run run = {.start = {.kind = ZUPHINKA_KIND_TOUCH}, .limit = NEVER};
+  begin_run(pool, &run);
+  lock(pool);
+  const struct zuphinka_pool_loan used = *loan; /* another thread may end it meanwhile */
+  enum zuphinka_pool_error error = error_of_loan(pool, &used);
+  if (!error) {
+    run.start.id = used.id;
+    run.loan = &used;
+    error = drive(pool, &run);
+    if (error_of_loan(pool, &used)) error = error_of_loan(pool, &used);
+    else if (error == ZUPHINKA_POOL_ERROR_NOT_LENT) error = ZUPHINKA_POOL_ERROR_GONE; /* as in end_loan */
+  }
+  store_cut(pool, &run);
+  unlock(pool);
+  return error;
+}
+
+/* Makes a call that is for no loan, and stores what it came to. */
+static enum zuphinka_pool_error call(struct zuphinka_pool *pool, uint32_t kind, struct zuphinka_effects *last) {
+  struct run run = {.start = {.kind = kind}, .limit = NEVER};
   begin_run(pool, &run);
   lock(pool);
   keep_room(pool, &run);
-  enum zuphinka_pool_error error = loan ? error_of_loan(pool, loan) : ZUPHINKA_POOL_ERROR_NONE;
-  if (!error) error = drive(pool, &run);
-  if (loan && error_of_loan(pool, loan)) error = error_of_loan(pool, loan);
-  else if (error == ZUPHINKA_POOL_ERROR_NOT_LENT) error = ZUPHINKA_POOL_ERROR_GONE; /* as in end_loan */
+  enum zuphinka_pool_error error = drive(pool, &run);
   store_cut(pool, &run);
   unlock(pool);
   *last = run.next;
   return error;
 }
 
-/* Makes such a call for no loan, and stores its count, unless the pointer is null. */
+/* Makes such a call, and stores its count, unless the pointer is null. */
 static enum zuphinka_pool_error count_by(struct zuphinka_pool *pool, uint32_t kind, uint64_t *count) {
   struct zuphinka_effects last;
-  enum zuphinka_pool_error error = call(pool, kind, NULL, &last);
+  enum zuphinka_pool_error error = call(pool, kind, &last);
   if (count) *count = last.count;
   return error;
-}
-
-enum zuphinka_pool_error zuphinka_pool_touch(struct zuphinka_pool *pool, const struct zuphinka_pool_loan *loan) {
-  struct zuphinka_effects last;
-  return call(pool, ZUPHINKA_KIND_TOUCH, loan, &last);
 }
 
 enum zuphinka_pool_error zuphinka_pool_add(struct zuphinka_pool *pool) { return count_by(pool, ZUPHINKA_KIND_ADD, NULL); }
@@ -510,7 +574,7 @@ enum zuphinka_pool_error zuphinka_pool_fill(struct zuphinka_pool *pool, uint64_t
 
 enum zuphinka_pool_error zuphinka_pool_evict(struct zuphinka_pool *pool, struct zuphinka_pool_eviction *eviction) {
   struct zuphinka_effects last;
-  enum zuphinka_pool_error error = call(pool, ZUPHINKA_KIND_EVICT, NULL, &last);
+  enum zuphinka_pool_error error = call(pool, ZUPHINKA_KIND_EVICT, &last);
   if (eviction) *eviction = (struct zuphinka_pool_eviction){last.count, last.destroyed};
   return error;
 }
@@ -519,9 +583,25 @@ enum zuphinka_pool_error zuphinka_pool_reclaim(struct zuphinka_pool *pool, uint6
   return count_by(pool, ZUPHINKA_KIND_RECLAIM, reclaimed);
 }
 
+/* Reports the loans that have lasted too long, each once, without the lock. */
+static void report_leaks(struct zuphinka_pool *pool) {
+  const struct zuphinka_pool_host *host = &pool->host;
+  bool is_over = host->leak_after_ms == 0;
+  uint64_t next = 0, now = is_over ? 0 : time_of(pool).milliseconds;
+  while (!is_over) {
+    struct place found;
+    lock(pool);
+    bool is_found = find_long_loan(&pool->places, host->leak_after_ms, now, &next, &found);
+    is_over = next == pool->places.capacity;
+    unlock(pool);
+    if (is_found) host->leak(host->context, found.id, found.borrower, found.lent.milliseconds);
+  }
+}
+
 enum zuphinka_pool_error zuphinka_pool_maintain(struct zuphinka_pool *pool, struct zuphinka_pool_maintenance *done) {
   struct zuphinka_effects last;
-  enum zuphinka_pool_error error = call(pool, ZUPHINKA_KIND_MAINTAIN, NULL, &last);
+  report_leaks(pool);
+  enum zuphinka_pool_error error = call(pool, ZUPHINKA_KIND_MAINTAIN, &last);
   if (done) *done = (struct zuphinka_pool_maintenance){{last.count, last.destroyed}, last.reclaimed, last.filled};
   return error;
 }
@@ -551,7 +631,7 @@ enum zuphinka_pool_error zuphinka_pool_cut(struct zuphinka_pool *pool, zuphinka_
   if (entries) *entries = 0;
   lock(pool);
   bool has_turn = wait_for_cut(pool, NULL);
-  enum zuphinka_pool_error error = has_turn ? cut_and_store(pool, store, context, entries, NULL) : ZUPHINKA_POOL_ERROR_IN_USE;
+  enum zuphinka_pool_error error = has_turn ? cut_and_store(pool, store, context, entries, NULL) : ZUPHINKA_POOL_ERROR_STORING;
   unlock(pool);
   return error;
 }
@@ -566,20 +646,17 @@ static enum zuphinka_pool_error read_settings(const char *text, size_t length, s
 enum zuphinka_pool_error zuphinka_pool_reconfigure(struct zuphinka_pool *pool, const char *settings, size_t length, zuphinka_pool_store *store,
                                                    void *context, uint64_t *first) {
   struct change change = {.text = settings, .length = length};
-  struct zuphinka_setup setup;
   if (!settings) return ZUPHINKA_POOL_ERROR_NULL_POINTER;
   bool has_store = pool->journal == ZUPHINKA_POOL_JOURNAL_SEGMENTS && !store;
   if (has_store) store = pool->host.store;
   if (has_store) context = pool->host.context;
   if (pool->journal != ZUPHINKA_POOL_JOURNAL_OFF && !store) return ZUPHINKA_POOL_ERROR_MISSING_CALLBACK;
-  enum zuphinka_pool_error error = read_settings(settings, length, &setup);
+  enum zuphinka_pool_error error = read_settings(settings, length, &change.setup);
   if (error) return error;
-  change.quarter = setup.journal_limit / 4;
-  change.blocks = setup.block_when_exhausted;
   lock(pool);
   if (pool->journal == ZUPHINKA_POOL_JOURNAL_OFF) error = find_error(ZUPHINKA_END_NONE, cut_off(pool, &change));
   else if (wait_for_cut(pool, NULL)) error = cut_and_store(pool, store, context, NULL, &change);
-  else error = ZUPHINKA_POOL_ERROR_IN_USE;
+  else error = ZUPHINKA_POOL_ERROR_STORING;
   unlock(pool);
   if (change.is_made && first) *first = change.first;
   return change.is_made ? ZUPHINKA_POOL_ERROR_NONE : error;
@@ -592,9 +669,9 @@ static enum zuphinka_pool_error open_core(struct zuphinka_pool *pool, const char
   const struct zuphinka_pool_host *host = &pool->host;
   struct zuphinka_options options = {.pool = pool->number,
                                      .max_overtakes = host->max_overtakes ? host->max_overtakes : MOST_OVERTAKES,
-                                     .activates = host->activate,
+                                     .activates = host->activate || host->max_lifetime_ms > 0,
                                      .validates = host->validate,
-                                     .passivates = host->passivate,
+                                     .passivates = host->passivate || host->max_lifetime_ms > 0,
                                      .drops_journal = pool->journal == ZUPHINKA_POOL_JOURNAL_OFF};
   struct zuphinka_setup setup;
   cpu_set_t processors;
@@ -605,10 +682,10 @@ static enum zuphinka_pool_error open_core(struct zuphinka_pool *pool, const char
   uint32_t status = zuphinka_open_with(&pool->core, settings, length, &options);
   zuphinka_room(&pool->core, &room);
   pool->low = pool->quarter = (room + 1) / 4; /* the entry of the close is set aside */
-  pool->blocks = setup.block_when_exhausted;
+  take_waits(pool, &setup);
   pool->processors = sched_getaffinity(0, sizeof processors, &processors) == 0 ? (uint64_t)CPU_COUNT(&processors) : CPU_SETSIZE;
   pool->opened = monotonic();
-  pool->last_loan = UINT64_C(1) << 63;
+  pool->last_loan = FIRST_LOAN;
   return find_error(ZUPHINKA_END_NONE, status);
 }
 
@@ -628,7 +705,7 @@ static bool open_conditions(struct zuphinka_pool *pool) {
 static void free_pool(struct zuphinka_pool *pool) {
   zuphinka_drop(&pool->core);
   free(pool->unstored.text);
-  free(pool->places);
+  free(pool->places.all);
   free(pool);
 }
 
@@ -636,9 +713,10 @@ enum zuphinka_pool_error zuphinka_pool_open(struct zuphinka_pool **pool, const c
                                             enum zuphinka_pool_journal journal) {
   static atomic_uint_least64_t numbered;
   if (!pool || !settings || !host) return ZUPHINKA_POOL_ERROR_NULL_POINTER;
+  if (host->size != sizeof *host) return ZUPHINKA_POOL_ERROR_UNKNOWN_SIZE; /* and nothing else of it is read */
   if ((unsigned)journal > ZUPHINKA_POOL_JOURNAL_SEGMENTS) return ZUPHINKA_POOL_ERROR_UNKNOWN_JOURNAL;
-  bool lacks_store = journal == ZUPHINKA_POOL_JOURNAL_SEGMENTS && !host->store;
-  if (!host->make || !host->destroy || lacks_store) return ZUPHINKA_POOL_ERROR_MISSING_CALLBACK;
+  bool lacks_store = journal == ZUPHINKA_POOL_JOURNAL_SEGMENTS && !host->store, lacks_leak = host->leak_after_ms > 0 && !host->leak;
+  if (!host->make || !host->destroy || lacks_store || lacks_leak) return ZUPHINKA_POOL_ERROR_MISSING_CALLBACK;
   struct zuphinka_pool *opened = malloc(sizeof *opened);
   if (!opened) return ZUPHINKA_POOL_ERROR_OUT_OF_MEMORY;
   *opened = (struct zuphinka_pool){.host = *host, .journal = journal, .lock = PTHREAD_MUTEX_INITIALIZER};

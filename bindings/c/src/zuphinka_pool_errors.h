@@ -39,17 +39,21 @@ static const struct {
     [ZUPHINKA_POOL_ERROR_UNKNOWN_JOURNAL] = {.text = "the journal has no such use"},
     [ZUPHINKA_POOL_ERROR_FOREIGN] = {.text = "the object is not one of the pool's"},
     [ZUPHINKA_POOL_ERROR_BUFFER_TOO_SMALL] = {.text = "the text does not fit into the buffer"},
+    [ZUPHINKA_POOL_ERROR_UNKNOWN_SIZE] = {.text = "the size of the host's struct is none that the library knows"},
+    [ZUPHINKA_POOL_ERROR_STORING] = {.text = "the journal is not cut by the callback that stores a segment of it"},
 };
+
+enum { ERRORS = sizeof errors / sizeof *errors };
 
 /* Returns the error of an end or of a status, the other of which is 0; or none. */
 static enum zuphinka_pool_error find_error(uint32_t end, uint32_t status) {
-  enum zuphinka_pool_error error = ZUPHINKA_POOL_ERROR_BUFFER_TOO_SMALL;
+  enum zuphinka_pool_error error = (enum zuphinka_pool_error)(ERRORS - 1);
   while (error > ZUPHINKA_POOL_ERROR_NONE && !(end && errors[error].end == end) && !(status && errors[error].status == status)) error--;
   return error;
 }
 
 const char *zuphinka_pool_error_text(enum zuphinka_pool_error error) {
-  return (unsigned)error <= ZUPHINKA_POOL_ERROR_BUFFER_TOO_SMALL ? errors[error].text : "the code is no error";
+  return (unsigned)error < ERRORS ? errors[error].text : "the code is no error";
 }
 
 #endif

@@ -29,10 +29,13 @@ static int64_t monotonic(void) {
   return now.tv_sec * SECOND + now.tv_nsec;
 }
 
-/* Returns the time some milliseconds from now. */
-static int64_t after(uint64_t milliseconds) {
-  return monotonic() + (int64_t)(milliseconds < LONGEST_WAIT ? milliseconds : LONGEST_WAIT) * MILLISECOND;
+/* Returns how long a wait of some milliseconds is, in nanoseconds. */
+static int64_t in_nanoseconds(uint64_t milliseconds) {
+  return (int64_t)(milliseconds < LONGEST_WAIT ? milliseconds : LONGEST_WAIT) * MILLISECOND;
 }
+
+/* Returns the time some milliseconds from now. */
+static int64_t after(uint64_t milliseconds) { return monotonic() + in_nanoseconds(milliseconds); }
 
 /* Pauses for FIRST_PAUSE longer than since `began`, for LONGEST_PAUSE and until `end` at most. Returns false, without a pause, at `end`. */
 static bool pause_once(int64_t began, int64_t end) {

@@ -11,6 +11,7 @@
 #include <stdbool.h>
 #include <stddef.h>
 #include <stdlib.h>
+#include <sys/queue.h>
 
 #include "zuphinka.h"
 
@@ -21,9 +22,6 @@
 
 /* The bytes of a part at first, which are doubled as it grows. */
 enum { SHORT_PART = 65536 };
-
-/* The bytes of stack that a call of the pool needs: HotSpot keeps 96 KiB for itself, and no section takes a quarter of the other 24. */
-enum { NEEDED_STACK = 120 * 1024 };
 
 /* The flags of a reply. */
 enum { HAS_WAKE = 1, HAS_UNTIL = 2 };
@@ -43,14 +41,42 @@ struct details {
 };
 
 struct pool {
+  LIST_ENTRY(pool) others;
   struct zuphinka core;
   struct details details;
   bool reclaims;
 };
 
+/* All open pools, which nobody has any more when this library is unloaded with the class loader of their classes; and what protects the list. */
+static LIST_HEAD(, pool) pools = LIST_HEAD_INITIALIZER(pools);
+static pthread_mutex_t lock_of_pools = PTHREAD_MUTEX_INITIALIZER;
+
 static struct pool *pool_at(jlong handle) { return (struct pool *)(intptr_t)handle; }
 
 static struct zuphinka *core_at(jlong handle) { return &pool_at(handle)->core; }
+
+/* Notes an open pool. Returns its handle. */
+static jlong noted(struct pool *pool) {
+  pthread_mutex_lock(&lock_of_pools);
+  LIST_INSERT_HEAD(&pools, pool, others);
+  pthread_mutex_unlock(&lock_of_pools);
+  return (jlong)(intptr_t)pool;
+}
+
+/* Frees a pool. */
+static void end(struct pool *pool) {
+  pthread_mutex_lock(&lock_of_pools);
+  LIST_REMOVE(pool, others);
+  pthread_mutex_unlock(&lock_of_pools);
+  zuphinka_drop(&pool->core);
+  free(pool);
+}
+
+/* Frees the pools that are left when the library is unloaded. */
+JNIEXPORT void JNICALL JNI_OnUnload(JavaVM *machine, void *reserved) {
+  (void)machine, (void)reserved;
+  while (!LIST_EMPTY(&pools)) end(LIST_FIRST(&pools));
+}
 
 /* Opens a pool that works as the flags say, and whose waiters are overtaken at most so often. Returns its handle, or a negative status. */
 JNIEXPORT jlong JNICALL Java_io_github_zuphinka_Core_open(JNIEnv *env, jclass class, jbyteArray settings, jint flags, jlong overtakes) {
@@ -69,7 +95,7 @@ JNIEXPORT jlong JNICALL Java_io_github_zuphinka_Core_open(JNIEnv *env, jclass cl
     status = zuphinka_open_with(&pool->core, text, (size_t)length, &options);
   }
   free(text);
-  if (status == ZUPHINKA_STATUS_DONE) return (jlong)(intptr_t)pool;
+  if (status == ZUPHINKA_STATUS_DONE) return noted(pool);
   free(pool);
   return -(jlong)status;
 }
@@ -90,8 +116,7 @@ JNIEXPORT jint JNICALL Java_io_github_zuphinka_Core_reconfigure(JNIEnv *env, jcl
 /* Frees a pool. */
 JNIEXPORT void JNICALL Java_io_github_zuphinka_Core_drop(JNIEnv *env, jclass class, jlong handle) {
   (void)env, (void)class;
-  zuphinka_drop(core_at(handle));
-  free(pool_at(handle));
+  end(pool_at(handle));
 }
 
 /* Returns the details of a pool, which are valid until it is freed; null if there is no memory for the buffer. */
@@ -111,12 +136,12 @@ static char *lowest_of_stack(void) {
   return lowest;
 }
 
-/* Returns whether the thread has enough stack for a call of the pool. */
-JNIEXPORT jboolean JNICALL Java_io_github_zuphinka_Core_hasStack(JNIEnv *env, jclass class) {
+/* Returns how many bytes of its stack the thread has left; any large number if the system does not know it. */
+JNIEXPORT jlong JNICALL Java_io_github_zuphinka_Core_stackLeft(JNIEnv *env, jclass class) {
   (void)env, (void)class;
   static _Thread_local char *lowest;
   if (!lowest) lowest = lowest_of_stack();
-  return (char *)__builtin_frame_address(0) - lowest >= NEEDED_STACK;
+  return (jlong)((char *)__builtin_frame_address(0) - lowest);
 }
 
 /* Stores the details of effects, and returns the reply. */

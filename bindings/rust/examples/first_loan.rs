@@ -1,7 +1,7 @@
 //! Borrows a session from a pool, uses it and returns it. The journal of the pool goes to a new folder.
 //!
 //!     cargo run --offline --example first_loan -- first.journal
-//!     ../../pool check first.journal/settings.toml first.journal/segment-*
+//!     ../../pool check first.journal/*/settings.toml first.journal/*/segment-*
 
 use std::{convert::Infallible, env, error::Error};
 use zuphinka::{Journal, Manager, Pool, Segments};

@@ -2,7 +2,7 @@
 //! folder, in segments, so that the servers could run for years.
 //!
 //!     cargo run --offline --example servers -- servers.journal
-//!     ../../pool check servers.journal/settings.toml servers.journal/segment-*
+//!     ../../pool check servers.journal/*/settings.toml servers.journal/*/segment-*
 
 use std::env;
 use std::error::Error;

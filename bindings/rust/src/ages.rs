@@ -1,7 +1,6 @@
 //! The ages of objects that have a lifetime. The calls of the core know of none, so the pool takes steps of the core by itself.
 
 use crate::call::Kind;
-use crate::callers::caller_number;
 use crate::clock::Moment;
 use crate::error::Error;
 use crate::keeping::Eviction;
@@ -12,6 +11,7 @@ use crate::shared::{Held, Item, Shared};
 use crate::sleepers::Wakes;
 use crate::step::{Answer, Input, Outcome, StepFault};
 use crate::values::Loan;
+use std::time::Instant;
 
 /// An idle object that was examined, and has to end if it is there.
 type Examined<M> = Option<Loan<Item<M>>>;
@@ -36,6 +36,7 @@ impl<M: Manager> Drop for Place<'_, M> {
             0,
         );
         state.values.free(self.token);
+        self.pool.tell_ended(&state);
         self.pool.leave_after_step(state);
     }
 }
@@ -123,7 +124,7 @@ impl<M: Manager> Shared<M> {
 
     /// Looks at the age of the next idle objects, as many as there are up to `count`.
     pub fn examine_ages(&self, count: u64) -> Result<Eviction, Error<M::Error>> {
-        let caller = caller_number();
+        let caller = self.caller();
         let mut done = Eviction::default();
         for _ in 0..count {
             match self.examine_age(caller)? {
@@ -143,18 +144,20 @@ impl<M: Manager> Shared<M> {
     fn examine_age(&self, caller: u32) -> Result<Option<Examined<M>>, Error<M::Error>> {
         loop {
             match self.try_to_examine_age(caller) {
-                Err(StepFault::JournalFull) if self.make_room_to_examine() => {}
+                Err(StepFault::JournalFull) => self.make_room_to_examine()?,
                 examined => return examined.map_err(Error::from),
             }
         }
     }
 
-    /// Makes room in a full journal. Returns whether that is done.
+    /// Makes room in a full journal.
     #[cold]
-    fn make_room_to_examine(&self) -> bool {
+    fn make_room_to_examine(&self) -> Result<(), Error<M::Error>> {
+        let began = self.now();
         let mut state = self.lock();
-        let (first, end) = (state.first_stored(), state.end_of_wait());
-        self.make_room(state, Kind::Evict, first, end)
+        let (first, end) = (state.first_stored(), state.end_of_wait(Instant::now()));
+        let made = self.make_room(state, Kind::Evict, first, end);
+        made.map_err(|no_room| self.no_room(no_room, began))
     }
 
     fn try_to_examine_age(&self, caller: u32) -> Result<Option<Examined<M>>, StepFault> {

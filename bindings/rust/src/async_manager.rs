@@ -1,6 +1,7 @@
 //! Managers whose calls are awaited.
 
 use crate::manager::Manager;
+use std::error;
 use std::future::Future;
 use std::pin::pin;
 use std::sync::atomic::{AtomicBool, Ordering};
@@ -45,12 +46,12 @@ use std::thread::{self, Thread};
 /// }
 /// # Ok::<(), Box<dyn std::error::Error>>(())
 /// ```
-pub trait AsyncManager: Send + Sync {
+pub trait AsyncManager: Send + Sync + 'static {
     /// The objects that are lent.
     type Object: Send;
 
-    /// Why an object could not be made, activated or passivated, or did not pass a test.
-    type Error;
+    /// Why an object could not be made, activated or passivated, or did not pass a test, as in [`Manager::Error`].
+    type Error: error::Error + Send + Sync + 'static;
 
     /// Whether [`activate`](AsyncManager::activate) does anything, as in [`Manager::ACTIVATES`].
     const ACTIVATES: bool = true;

@@ -1,6 +1,8 @@
 //! The numbers of threads in journals.
 
+use crate::panics::unless_it_panics;
 use std::sync::atomic::{AtomicU32, Ordering};
+use std::thread;
 
 static NEXT: AtomicU32 = AtomicU32::new(0);
 
@@ -14,4 +16,13 @@ thread_local! {
 #[inline]
 pub fn caller_number() -> u32 {
     NUMBER.with(|number| *number)
+}
+
+/// Returns the name of this thread, if it has one and there is memory for it. A thread that ends may have none any more.
+pub(crate) fn name_of_this_thread() -> Option<String> {
+    let this = unless_it_panics(thread::current)?;
+    let (name, mut copy) = (this.name()?, String::new());
+    copy.try_reserve_exact(name.len()).ok()?;
+    copy.push_str(name);
+    Some(copy)
 }

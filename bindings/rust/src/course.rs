@@ -6,12 +6,13 @@ use crate::locked_pool::LockedPool;
 use crate::manager::Manager;
 use crate::panics::drop_quietly;
 use crate::proved_core::{Call, Event, Start};
+use crate::room::NoRoom;
 use crate::shared::{Held, Item, Shared, WaitLimit};
 use crate::sleepers::{Alarm, Wakes};
 use crate::values::Loan;
 use std::mem;
 use std::task::Waker;
-use std::time::Duration;
+use std::time::{Duration, Instant};
 
 /// The value of the object that a call works on.
 pub(crate) enum Value<T> {
@@ -39,14 +40,20 @@ pub(crate) struct Course<M: Manager> {
     pub value: Value<Item<M>>,
     /// Whether an eviction run validates that object, by the settings at which it was taken.
     pub tests_idle: bool,
+    /// Whether an eviction run found it too old, once it has looked.
+    pub is_too_old: Option<bool>,
     /// Whether it found no memory for its object or for its sleep.
     pub lacks_memory: bool,
     /// Whether it was begun again, after entries were dropped for the sake of memory.
     pub is_begun_again: bool,
     /// The position of the first stored entry when it last found no room in the journal.
     pub first_stored: u64,
+    /// Why it found no room in the journal.
+    pub no_room: NoRoom,
     /// For a task that waits for room in the journal: the number under which its waker is kept.
     pub room_wait: Option<u64>,
+    /// When it first waited, by the system's clock.
+    pub since: Option<Instant>,
     /// For a thread that is to sleep: how long at most, and for how many threads it waits at most.
     pub longest: Option<Duration>,
     pub threads: usize,
@@ -68,10 +75,13 @@ impl<M: Manager> Course<M> {
             token: 0,
             value: Value::None,
             tests_idle: false,
+            is_too_old: None,
             lacks_memory: false,
             is_begun_again: false,
             first_stored: 0,
+            no_room: NoRoom::Full,
             room_wait: None,
+            since: None,
             longest: None,
             threads: 0,
         }
@@ -122,7 +132,11 @@ impl<M: Manager> Course<M> {
             kind: self.kind,
             caller: self.caller,
             at: state.tell(at),
-            id: self.id,
+            id: match self.limit {
+                // By this time a wait may be longer than the settings say.
+                WaitLimit::Until(_) => u64::MAX,
+                WaitLimit::None | WaitLimit::AsSet => self.id,
+            },
             token: self.token,
         };
         state.core.begin(start, &mut self.call);
@@ -177,11 +191,12 @@ impl<M: Manager> Course<M> {
         let mut wakes = Wakes::default();
         loop {
             wakes.push(self.call.wake());
-            if self.take_up(&mut state, waker) {
+            if self.take_up(pool, &mut state, waker) {
                 break;
             }
         }
         state.care_for_journal();
+        pool.tell_ended(&state);
         match self.call.action() {
             Action::Done(end) if end != End::Lent && self.kind != Kind::Touch => {
                 pool.leave(state, wakes);
@@ -191,14 +206,19 @@ impl<M: Manager> Course<M> {
     }
 
     /// Does the same once. Returns false if the call has gone on by that.
-    fn take_up(&mut self, state: &mut LockedPool<M::Object>, waker: &mut Option<Waker>) -> bool {
+    fn take_up(
+        &mut self,
+        pool: &Shared<M>,
+        state: &mut LockedPool<M::Object>,
+        waker: &mut Option<Waker>,
+    ) -> bool {
         match self.call.action() {
             Action::Make => return self.claim_place(state),
             Action::Activate | Action::Validate | Action::Passivate | Action::Destroy => {
                 self.take_value(state);
             }
             Action::Sleep => {
-                if !self.fall_asleep(state, waker) {
+                if !self.fall_asleep(pool, state, waker) {
                     self.tell(state, Report::GivenUp);
                     return false;
                 }
@@ -252,6 +272,7 @@ impl<M: Manager> Course<M> {
             self.token = token;
             self.value = Value::Here(state.values.take(token));
             self.tests_idle = state.setup.tests_idle;
+            self.is_too_old = None;
         }
     }
 
@@ -304,6 +325,9 @@ impl<M: Manager> Course<M> {
             (Kind::Borrow, End::TimedOut | End::Cancelled) => {
                 let has_waited = !matches!(self.limit, WaitLimit::None) && !self.lacks_memory;
                 measures.timeouts += u64::from(has_waited);
+            }
+            (Kind::Borrow, End::JournalFull) => {
+                measures.timeouts += u64::from(self.no_room == NoRoom::Late);
             }
             (Kind::Return, End::Parked | End::Destroyed)
             | (Kind::Invalidate | Kind::Detach, End::Destroyed) => {

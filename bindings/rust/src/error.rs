@@ -2,25 +2,31 @@
 
 use crate::escaped::Escaped;
 use crate::step::StepFault;
+use crate::timeouts::Timeout;
+use std::time::Duration;
 use std::{error, fmt, io};
 
 /// Why a call of a pool failed. `E` is the manager's error.
 ///
 /// Each call says what it leaves. None leaves an object without an owner, or a place taken for nothing.
-#[derive(Clone, Copy, Debug, PartialEq, Eq, Hash)]
+#[derive(Clone, Debug, PartialEq, Eq, Hash)]
 #[non_exhaustive]
 pub enum Error<E> {
     /// No object is idle, no place is free, and the call or the settings say not to wait.
     Exhausted,
-    /// No object was idle, and no place was free, for as long as the call or the settings allow.
-    TimedOut,
+    /// No object was idle, and no place was free, for as long as the call or the settings allow. Or the journal was full for that time, since its sink
+    /// was storing a segment ([`Timeout::for_sink`]).
+    TimedOut(Timeout),
     /// The pool is closed.
     Closed,
-    /// The journal has less [room](crate::Pool::room) than the call needs, until it is cut. A borrow that makes an object needs room for 6
+    /// The journal has less [room](crate::Pool::room) than the call needs, until it is cut or its sink stores it, which failed. A borrow that makes an object needs room for 6
     /// entries, and one that takes an idle object for 4; with [`Abandoned::on_borrow`](crate::Abandoned::on_borrow) each needs 1 more. An
     /// addition or a fill needs 4 for each object that it makes, an eviction run 2 for each object that it tests. A step that changes no object,
     /// as the note of a use, needs 1. The return, invalidation or detachment of a lent object and the first close of a pool need none.
     JournalFull,
+    /// The journal has less room than the call needs while its sink stores a segment in another thread, and the call may not wait for that. The sink is
+    /// slower than the pool, which has too little room for the time that it takes ([`Segments::limit`](crate::Segments::limit)).
+    SinkBusy,
     /// An allocation failed: for the entry, for the object's place, or for the caller's place among the waiters.
     OutOfMemory,
     /// The manager did not make an object, and returned this.
@@ -29,10 +35,10 @@ pub enum Error<E> {
     Activate(E),
     /// The manager did not passivate a new object, and returned this.
     Passivate(E),
-    /// A new object did not pass the test of `testOnCreate`.
-    CreateTest,
-    /// A new object did not pass the test of `testOnBorrow`.
-    BorrowTest,
+    /// A new object did not pass the test of `testOnCreate`, for a reason if [`Manager::try_validate`](crate::Manager::try_validate) gave one.
+    CreateTest(Option<E>),
+    /// A new object did not pass the test of `testOnBorrow`, for a reason if there is one.
+    BorrowTest(Option<E>),
 }
 
 impl<E> Error<E> {
@@ -40,8 +46,17 @@ impl<E> Error<E> {
     pub fn into_manager_error(self) -> Option<E> {
         match self {
             Error::Make(error) | Error::Activate(error) | Error::Passivate(error) => Some(error),
+            Error::CreateTest(reason) | Error::BorrowTest(reason) => reason,
             _ => None,
         }
+    }
+
+    /// Returns the error of a call that had this limit of its own.
+    pub(crate) fn within(mut self, limit: Option<Duration>) -> Error<E> {
+        if let Error::TimedOut(timeout) = &mut self {
+            timeout.limit = limit;
+        }
+        self
     }
 }
 
@@ -59,15 +74,18 @@ impl<E> fmt::Display for Error<E> {
     fn fmt(&self, f: &mut fmt::Formatter<'_>) -> fmt::Result {
         match self {
             Error::Exhausted => f.write_str("all objects of the pool are lent"),
-            Error::TimedOut => f.write_str("timed out waiting for an object of the pool"),
+            Error::TimedOut(timeout) => timeout.fmt(f),
             Error::Closed => f.write_str("the pool is closed"),
             Error::JournalFull => f.write_str("the journal of the pool is full"),
+            Error::SinkBusy => {
+                f.write_str("the journal of the pool is full while its sink stores a segment")
+            }
             Error::OutOfMemory => f.write_str("out of memory"),
             Error::Make(_) => f.write_str("an object could not be made"),
             Error::Activate(_) => f.write_str("a new object could not be activated"),
             Error::Passivate(_) => f.write_str("a new object could not be passivated"),
-            Error::CreateTest => f.write_str("a new object did not pass its test"),
-            Error::BorrowTest => {
+            Error::CreateTest(_) => f.write_str("a new object did not pass its test"),
+            Error::BorrowTest(_) => {
                 f.write_str("a new object did not pass its test before it was lent")
             }
         }
@@ -78,6 +96,9 @@ impl<E: error::Error + 'static> error::Error for Error<E> {
     fn source(&self) -> Option<&(dyn error::Error + 'static)> {
         match self {
             Error::Make(error) | Error::Activate(error) | Error::Passivate(error) => Some(error),
+            Error::CreateTest(reason) | Error::BorrowTest(reason) => {
+                reason.as_ref().map(|reason| reason as _)
+            }
             _ => None,
         }
     }
@@ -87,13 +108,16 @@ impl<E: error::Error + 'static> error::Error for Error<E> {
 #[derive(Clone, Debug, PartialEq, Eq)]
 #[non_exhaustive]
 pub enum OpenError {
-    /// The settings are invalid.
+    /// A text of settings is invalid, in a function that reads one and opens a pool.
     Settings(SettingsError),
+    /// A number or a time is out of its range: what this method of the builder sets, or `Abandoned::timeout`, `Segments::limit` or
+    /// `Journal::Memory`.
+    OutOfRange(&'static str),
     /// Two settings of the builder contradict each other.
     Contradiction(Contradiction),
     /// An allocation failed.
     OutOfMemory,
-    /// The maintenance thread could not be started: an error of this kind.
+    /// A thread of the pool's own could not be started: an error of this kind.
     Thread(io::ErrorKind),
 }
 
@@ -176,6 +200,8 @@ pub enum SettingsError {
     WrongType(String),
     /// The number of this key is out of its range.
     OutOfRange(String),
+    /// The builder had settings before the text, which would replace them: call [`Builder::settings`](crate::Builder::settings) first.
+    NotFirst,
     /// An allocation failed while they were read.
     OutOfMemory,
 }
@@ -246,9 +272,10 @@ impl fmt::Display for OpenError {
     fn fmt(&self, f: &mut fmt::Formatter<'_>) -> fmt::Result {
         match self {
             OpenError::Settings(error) => write!(f, "settings: {error}"),
+            OpenError::OutOfRange(method) => write!(f, "settings: {method} is out of its range"),
             OpenError::Contradiction(contradiction) => write!(f, "settings: {contradiction}"),
             OpenError::OutOfMemory => f.write_str("out of memory"),
-            OpenError::Thread(kind) => write!(f, "the maintenance thread: {kind}"),
+            OpenError::Thread(kind) => write!(f, "a thread of the pool: {kind}"),
         }
     }
 }
@@ -263,6 +290,9 @@ impl fmt::Display for SettingsError {
             SettingsError::UnknownKey(key) => write!(f, "unknown key {}", Escaped(key)),
             SettingsError::WrongType(key) => write!(f, "wrong type {}", Escaped(key)),
             SettingsError::OutOfRange(key) => write!(f, "out of range {}", Escaped(key)),
+            SettingsError::NotFirst => {
+                f.write_str("a text of settings comes after settings of the builder")
+            }
             SettingsError::OutOfMemory => f.write_str("out of memory"),
         }
     }

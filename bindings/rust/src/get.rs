@@ -1,7 +1,6 @@
 //! A borrow by a task.
 
 use crate::call::{Action, Kind};
-use crate::callers::caller_number;
 use crate::clock::Moment;
 use crate::course::Course;
 use crate::error::Error;
@@ -13,9 +12,9 @@ use crate::pooled::Pooled;
 use crate::shared::{Shared, WaitLimit};
 use crate::work::Worked;
 use std::fmt;
-use std::future::Future;
+use std::future::{poll_fn, Future};
 use std::mem;
-use std::pin::Pin;
+use std::pin::{pin, Pin};
 use std::task::{Context, Poll, Waker};
 
 /// A borrow by a task: the future that [`Pool::get_async`](crate::Pool::get_async) returns.
@@ -27,19 +26,22 @@ use std::task::{Context, Poll, Waker};
 /// that one. If the manager is making, activating or validating an object, that is cancelled: the object is destroyed, and then its place is
 /// freed.
 ///
-/// **Once it was polled, poll it when it wakes its task, or drop it.** If you do neither, the object that it was woken for stays idle, and later
-/// borrows queue behind it. So a task that has such a future must not wait for another borrow meanwhile, nor its thread block in
-/// [`Pool::get`](crate::Pool::get).
+/// **Once it was polled, poll it when it wakes its task, or drop it.** If you do neither for a second, its wake goes to the next waiter: then by the
+/// next borrow, poll or maintenance of the pool, or by a thread that waits, which looks each second. Until then later borrows queue behind it once it
+/// was overtaken as often as the pool allows. It begins again when it is polled, behind those that wait.
 #[must_use = "a future does nothing until it is polled"]
 pub struct Get<M: Manager> {
     // Dropped before the pool.
     progress: Progress<M>,
     pool: Handle<M>,
+    /// When it was polled first.
+    began: Moment,
 }
 
 /// How far a borrow is between two polls.
 enum Progress<M: Manager> {
-    New,
+    /// It is to wait up to this limit.
+    New(WaitLimit),
     /// It sleeps, or waits for room in the journal, or was woken.
     Waits(Course<M>),
     /// The manager is awaited.
@@ -66,33 +68,66 @@ type Polled<'a, M> = InProgress<M, &'a Shared<M>>;
 type Lent<M> = Poll<Result<Pooled<M>, Error<<M as Manager>::Error>>>;
 
 impl<M: Manager> Get<M> {
-    pub(crate) fn new(pool: Handle<M>) -> Get<M> {
+    pub(crate) fn new(pool: Handle<M>, limit: WaitLimit) -> Get<M> {
         Get {
-            progress: Progress::New,
+            progress: Progress::New(limit),
             pool,
+            began: Moment::of_millis(0),
         }
+    }
+
+    /// Ends the borrow, whose time is over.
+    fn time_out(&mut self) -> Error<M::Error> {
+        let error = match mem::replace(&mut self.progress, Progress::Ended) {
+            Progress::Waits(course) => InProgress::resume(&*self.pool, course).time_out(),
+            other => {
+                drop(other);
+                self.pool.lock().measures.timeouts += 1;
+                self.pool.timed_out(self.began, false)
+            }
+        };
+        error.within(None)
+    }
+}
+
+impl<M: Manager + 'static> Get<M> {
+    /// Awaits the borrow until a limit is ready, which is polled after it.
+    pub(crate) async fn until(mut self, limit: impl Future) -> Result<Pooled<M>, Error<M::Error>> {
+        let mut limit = pin!(limit);
+        poll_fn(|context| match self.advance(context) {
+            Poll::Pending => limit.as_mut().poll(context).map(|_| Err(self.time_out())),
+            lent => lent,
+        })
+        .await
     }
 }
 
 impl<M: Manager + 'static> Get<M> {
     fn advance(&mut self, context: &mut Context<'_>) -> Lent<M> {
-        let Get { progress, pool } = self;
+        let Get {
+            progress,
+            pool,
+            began: first,
+        } = self;
         let mut begun = None;
-        if let Progress::New = progress {
+        if let Progress::New(limit) = *progress {
             // It has ended if the manager panics.
             *progress = Progress::Ended;
             let (caller, at) = match lend_at_once(pool) {
                 Ok(lent) => return Poll::Ready(Ok(lent)),
                 Err(came) => came,
             };
-            *progress = Progress::New;
-            begun = Some(Course::new(Kind::Borrow, caller, at, WaitLimit::AsSet));
+            (*progress, *first) = (Progress::New(limit), at);
+            begun = Some(Course::new(Kind::Borrow, caller, at, limit));
         }
         // Code of others, so without the lock. If it panics, nothing has changed.
         let mut waker = PollWaker(Some(context.waker().clone()));
         let waker = &mut waker.0;
         let call = match (mem::replace(progress, Progress::Ended), begun) {
-            (_, Some(course)) => InProgress::begin(&**pool, pool.lock(), course, waker),
+            (_, Some(course)) => {
+                let state = pool.pass_wakes_on(pool.lock());
+                InProgress::begin(&**pool, state, course, waker)
+            }
             (Progress::Waits(course), _) => {
                 let mut call = InProgress::resume(&**pool, course);
                 if let Action::Sleep = call.action() {
@@ -112,15 +147,15 @@ impl<M: Manager + 'static> Get<M> {
 
 /// Returns an object that is lent at once, or else the number of the caller and the time.
 fn lend_at_once<M: Manager>(pool: &Handle<M>) -> Result<Pooled<M>, (u32, Moment)> {
-    let (caller, at) = (caller_number(), pool.now());
+    let (caller, at) = (pool.caller(), pool.now());
     let state = match pool.lend_at_once(caller, at) {
-        Ok(loan) => return Ok(Pooled::new(pool.clone(), loan)),
+        Ok(loan) => return Ok(Pooled::new(pool.clone(), loan, caller)),
         Err(state) => state,
     };
     if pool.lends_at_once(&state) || M::AWAITS {
         drop(state);
     } else if let Ok(loan) = pool.lend_ready(state, caller, at) {
-        return Ok(Pooled::new(pool.clone(), loan));
+        return Ok(Pooled::new(pool.clone(), loan, caller));
     }
     Err((caller, at))
 }
@@ -136,8 +171,8 @@ fn go_on<'a, M: Manager + 'static>(
     loop {
         match call.action() {
             Action::Done(end) => {
-                let lent = call.take_lent(end);
-                return Poll::Ready(lent.map(|loan| Pooled::new(pool.clone(), loan)));
+                let (lent, caller) = (call.take_lent(end), call.caller());
+                return Poll::Ready(lent.map(|loan| Pooled::new(pool.clone(), loan, caller)));
             }
             // The pool has its waker.
             Action::Sleep | Action::MakeRoom if waker.is_none() => {
@@ -196,6 +231,7 @@ impl<M: Manager> Drop for Get<M> {
     fn drop(&mut self) {
         if let Progress::Waits(course) = mem::replace(&mut self.progress, Progress::Ended) {
             drop(InProgress::resume(&*self.pool, course));
+            drop(self.pool.pass_wakes_on(self.pool.lock()));
         }
     }
 }

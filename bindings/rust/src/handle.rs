@@ -7,14 +7,15 @@ use std::sync::{Arc, Weak};
 
 /// A user's handle: that of a [`Pool`](crate::Pool), a lent object, or the borrow of a task. When the last one is gone, the pool is closed.
 ///
-/// The maintenance thread has none. Users are counted by themselves where there is such a thread, so that the last one can wait for it.
+/// The threads of a pool's own have none. Users are counted by themselves where there is such a thread, so that the last one ends the pool also
+/// while one of them has it.
 pub(crate) struct Handle<M: Manager> {
     // Dropped before the pool.
     users: Option<Arc<Users<M>>>,
     pool: Arc<Shared<M>>,
 }
 
-/// The users of a pool that a thread maintains.
+/// The users of a pool that has threads of its own.
 struct Users<M: Manager>(Arc<Shared<M>>);
 
 impl<M: Manager> Drop for Users<M> {
@@ -27,8 +28,8 @@ impl<M: Manager> Drop for Users<M> {
 
 impl<M: Manager> Handle<M> {
     /// The first handle of a pool.
-    pub fn new(pool: Arc<Shared<M>>, is_maintained: bool) -> Handle<M> {
-        let users = is_maintained.then(|| Arc::new(Users(Arc::clone(&pool))));
+    pub fn new(pool: Arc<Shared<M>>, has_threads: bool) -> Handle<M> {
+        let users = has_threads.then(|| Arc::new(Users(Arc::clone(&pool))));
         Handle { users, pool }
     }
 

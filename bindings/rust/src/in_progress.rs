@@ -1,6 +1,6 @@
 //! A call in progress.
 
-use crate::call::{Action, End};
+use crate::call::{Action, End, Report};
 use crate::course::Course;
 use crate::error::Error;
 use crate::manager::Manager;
@@ -59,6 +59,11 @@ impl<M: Manager, P: Deref<Target = Shared<M>>> InProgress<M, P> {
         self.course.call.action()
     }
 
+    /// Returns the number of its caller.
+    pub fn caller(&self) -> u32 {
+        self.course.caller
+    }
+
     /// Returns how many objects the call examined, made, took or destroyed so far.
     pub fn count(&self) -> u64 {
         self.course.call.count()
@@ -92,6 +97,13 @@ impl<M: Manager, P: Deref<Target = Shared<M>>> InProgress<M, P> {
     /// Goes on with a call that sleeps, if it was woken or its wait is over.
     pub fn look(&mut self, waker: &mut Option<Waker>) {
         self.course.look(&self.pool, waker);
+    }
+
+    /// Ends a call that waits, and whose time is over. Returns its error.
+    pub fn time_out(mut self) -> Error<M::Error> {
+        let for_sink = self.action() == Action::MakeRoom;
+        self.course.advance(&self.pool, Report::GivenUp, &mut None);
+        self.pool.timed_out(self.course.began, for_sink)
     }
 
     /// Returns whether the next action is one that an awaited manager does in a future.
@@ -135,15 +147,17 @@ impl<M: Manager, P: Deref<Target = Shared<M>>> InProgress<M, P> {
         let error = match end {
             End::Cancelled | End::MakeFailed if course.lacks_memory => Error::OutOfMemory,
             End::OutOfMemory => Error::OutOfMemory,
-            End::JournalFull => Error::JournalFull,
+            End::JournalFull => self.pool.no_room(course.no_room, course.began),
             End::Closed => Error::Closed,
             End::Exhausted => Error::Exhausted,
             End::Cancelled if matches!(course.limit, WaitLimit::None) => Error::Exhausted,
-            End::Cancelled | End::TimedOut => Error::TimedOut,
+            End::Cancelled | End::TimedOut => self.pool.timed_out(course.began, false),
             end => course.unexpected(Action::Done(end)),
         };
         match error {
-            Error::JournalFull | Error::OutOfMemory if self.pool.refuses(course.kind) => {
+            Error::JournalFull | Error::SinkBusy | Error::OutOfMemory
+                if self.pool.refuses(course.kind) =>
+            {
                 Error::Closed
             }
             error => error,

@@ -25,14 +25,18 @@ pub enum Journal {
     /// journal has too little [room](crate::Pool::room) lends nothing more ([`Error::JournalFull`](crate::Error::JournalFull)), until it is
     /// [cut](crate::Pool::cut).
     Memory(Option<u64>),
-    /// The entries are handed to a sink as segments, each when about half of the room in memory is used up, and the rest by
-    /// [`Pool::flush_journal`](crate::Pool::flush_journal) and [`Pool::reconfigure`](crate::Pool::reconfigure), and when the last handle and the
-    /// last lent object are gone.
+    /// The entries are handed to a sink as segments: once a second by a thread of the journal's own ([`Segments::store_every`]), also if no object comes
+    /// back; when about half of the room in memory is used up; by [`Pool::flush_journal`](crate::Pool::flush_journal),
+    /// [`Pool::reconfigure`](crate::Pool::reconfigure) and [`Pool::close`](crate::Pool::close); when the last [`Pool`](crate::Pool) is gone, though
+    /// objects are lent, and again when they are gone; and at the end of the program, if that has such a thread.
+    ///
+    /// **The end of the program** is a return from `main` or [`std::process::exit`]: it waits for the sinks of all pools, for 5 seconds at most. A
+    /// process that is aborted, killed by a signal, or ended by `_exit` loses what came since the last store.
     ///
     /// The call that uses up the half stores the segment before it returns, without the lock, once its object is idle or its place is free. One that
     /// lends an object leaves this to the next call, and so does one that waits. Other calls continue meanwhile. If they use up the rest, those that
-    /// need room wait for the segment, or the first of them stores it if nobody does, also in a poll of
-    /// [`Pool::get_async`](crate::Pool::get_async).
+    /// need room wait for the segment ([`Error::SinkBusy`](crate::Error::SinkBusy) if they may not), or the first of them stores it if nobody does,
+    /// also in a poll of [`Pool::get_async`](crate::Pool::get_async).
     Segments(Segments),
 }
 

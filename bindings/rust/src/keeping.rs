@@ -1,7 +1,6 @@
 //! Additions, fills, eviction runs, reclaims, clears and closes.
 
 use crate::call::{End, Kind};
-use crate::callers::caller_number;
 use crate::course::Course;
 use crate::error::Error;
 use crate::in_progress::InProgress;
@@ -47,7 +46,7 @@ pub struct Maintenance {
 impl<M: Manager> Shared<M> {
     /// Begins a call that is for no lent object.
     fn begin(&self, kind: Kind) -> InProgress<M, &Shared<M>> {
-        let (caller, at) = (caller_number(), self.now());
+        let (caller, at) = (self.caller(), self.now());
         let course = Course::new(kind, caller, at, WaitLimit::AsSet);
         InProgress::begin(self, self.lock(), course, &mut None)
     }
@@ -109,6 +108,7 @@ impl<M: Manager> Shared<M> {
 
     /// Runs an eviction, then a reclaim of abandoned objects, then a fill.
     pub fn maintain(&self) -> Result<Maintenance, Error<M::Error>> {
+        drop(self.pass_wakes_on(self.lock()));
         Ok(Maintenance {
             eviction: self.evict_for_maintenance()?,
             reclaimed: self.reclaim()?,
@@ -125,7 +125,7 @@ impl<M: Manager> Shared<M> {
         }
     }
 
-    /// Closes the pool, and destroys the idle objects. Returns their number.
+    /// Closes the pool, destroys the idle objects, and stores the journal. Returns their number.
     pub fn close(&self) -> u64 {
         if let Some(maintainer) = &*self.maintainer() {
             maintainer.stop();
@@ -133,7 +133,11 @@ impl<M: Manager> Shared<M> {
         let mut call = self.begin(Kind::Close);
         self.wake_for_room(self.lock());
         // The first close never fails. A later one has nothing to do.
-        let _ = drive_though_destruction_panics(&mut call);
+        let closed = caught(|| drive_though_destruction_panics(&mut call));
+        self.write_rest();
+        if let Err(panic) = closed {
+            continue_panic(panic);
+        }
         call.count()
     }
 }
@@ -163,8 +167,9 @@ fn continue_panic(panic: Panic) {
 }
 
 impl<M: Manager> Shared<M> {
-    /// Ends the pool once its last handle and its last lent object are gone: closes it, so that the manager destroys the idle objects, waits for
-    /// its thread, and hands the rest of the journal to its sink. What is done already is not done again.
+    /// Ends the pool once its last handle and its last lent object are gone: closes it, so that the manager destroys the idle objects and its threads
+    /// end, and hands the rest of the journal to its sink. What is done already is not done again. It does not wait for a round of maintenance, which
+    /// may wait for what this thread has.
     pub fn end(&self) {
         let mut state = self.lock();
         let is_done = state.core.is_closed() && state.values.len() == 0;
@@ -173,16 +178,16 @@ impl<M: Manager> Shared<M> {
             true => Ok(0),
             false => caught(|| self.close()),
         };
-        let maintainer = self.maintainer().take();
-        if let Some(maintainer) = maintainer {
-            maintainer.join();
+        let storer = self.storer().take();
+        if let Some(storer) = storer {
+            storer.end();
         }
         self.write_rest();
         closed.err().into_iter().for_each(continue_panic);
     }
 }
 
-/// Nobody has the pool any more. If its thread had it longer than its users, what came since they ended it is done and written now.
+/// Nobody has the pool any more. If its thread was in a round when its users ended it, what came since then is done and written now.
 ///
 /// A forked child does nothing with its copy: the objects, the sink and the thread are its parent's.
 impl<M: Manager> Drop for Shared<M> {

@@ -1,7 +1,6 @@
 //! Borrows by threads, returns, invalidations, detachments and uses.
 
 use crate::call::{End, Kind};
-use crate::callers::caller_number;
 use crate::clock::Moment;
 use crate::course::Course;
 use crate::error::Error;
@@ -42,12 +41,12 @@ impl<M: Manager> Handle<M> {
     /// Lends an object: an idle one, or a new one if a place is free.
     #[inline]
     pub fn borrow(&self, limit: WaitLimit) -> Result<Pooled<M>, Error<M::Error>> {
-        let (caller, at) = (caller_number(), self.now());
+        let (caller, at) = (self.caller(), self.now());
         let loan = match self.lend_at_once(caller, at) {
             Ok(loan) => loan,
             Err(state) => self.borrow_by_call(state, caller, at, limit)?,
         };
-        Ok(Pooled::new(self.clone(), loan))
+        Ok(Pooled::new(self.clone(), loan, caller))
     }
 }
 
@@ -82,6 +81,7 @@ impl<M: Manager> Shared<M> {
                 Err(held) => held.unwrap_or_else(|| self.lock()),
             },
         };
+        state = self.pass_wakes_on(state);
         let mut course = Course::new(Kind::Borrow, caller, at, limit);
         course.start(&mut state);
         if let Some(loan) = course.take_lent(&mut state) {
@@ -96,7 +96,7 @@ impl<M: Manager> Shared<M> {
 
     /// Takes an object back.
     pub fn give_back(&self, loan: Loan<Item<M>>) -> Returned {
-        let (caller, at) = (caller_number(), self.now());
+        let (caller, at) = (self.caller(), self.now());
         if self.is_too_old(&loan.object, at.millis) {
             return self.end_too_old(caller, at, loan);
         }
@@ -121,7 +121,7 @@ impl<M: Manager> Shared<M> {
 
     /// Takes an object back that cannot be used any more.
     pub fn invalidate(&self, loan: Loan<Item<M>>) -> Returned {
-        let (caller, at) = (caller_number(), self.now());
+        let (caller, at) = (self.caller(), self.now());
         let course = Course::of_loan(Kind::Invalidate, caller, at, loan);
         self.end_loan(self.lock(), course)
     }
@@ -150,7 +150,7 @@ impl<M: Manager> Shared<M> {
 
     /// Frees the place of an object that its holder keeps, to whom it was lent at a time in nanoseconds. One that was reclaimed has none.
     pub fn detach(&self, loan: Loan<()>, lent: u64) {
-        let (caller, at) = (caller_number(), self.now());
+        let (caller, at) = (self.caller(), self.now());
         let course = Course::of_detachment(caller, at, loan, lent);
         // It fails for room or memory only if the object is not lent any more.
         let _ = InProgress::begin(self, self.lock(), course, &mut None).drive();
@@ -158,7 +158,7 @@ impl<M: Manager> Shared<M> {
 
     /// Notes that an object is used.
     pub fn touch(&self, id: u64) -> Result<Touched, Error<M::Error>> {
-        let course = Course::of_use(caller_number(), self.now(), id);
+        let course = Course::of_use(self.caller(), self.now(), id);
         let mut call = InProgress::begin(self, self.lock(), course, &mut None);
         match call.drive()? {
             End::Noted => Ok(Touched::Noted),

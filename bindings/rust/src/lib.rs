@@ -48,9 +48,11 @@
 //! threads that it waits for.
 //!
 //! A pool never stops lending because its journal is full: by default it drops the entries, a thousand or more at a time. [`Builder::journal`] keeps
-//! them in memory ([`Journal::Memory`]), or stores them in segments ([`Journal::Segments`]), which `pool check` checks as one journal. The call that
-//! finds a segment due stores it at its end, also a return, unless it lends an object: then the next call does. If the journal is full, calls wait for
-//! the thread that stores one.
+//! them in memory ([`Journal::Memory`]), or stores them in segments ([`Journal::Segments`]), which `pool check` checks as one journal. A thread of the
+//! journal's own stores one every second, and the call that finds one due before stores it at its end, also a return, unless it lends an object: then
+//! the next call does. If the journal is full, calls wait for the thread that stores one.
+//!
+//! A loan that never ends is told to a closure ([`Builder::leak_detection`]), and its entries are in the stored journal.
 //!
 //! The settings of a pool may change while it is in use ([`Pool::reconfigure`]).
 //!
@@ -62,16 +64,27 @@
 #![warn(missing_docs)]
 #![deny(unsafe_op_in_unsafe_fn)]
 
+#[cfg(not(all(
+    target_os = "linux",
+    target_arch = "x86_64",
+    target_pointer_width = "64"
+)))]
+compile_error!("zuphinka needs Linux on x86-64: its core is a static library for it");
+
 mod ages;
+mod appended;
 mod async_manager;
 mod builder;
 mod call;
+mod caller_names;
 mod callers;
 mod clock;
 mod contradictions;
 mod course;
+mod ending;
 mod error;
 mod escaped;
+mod exits;
 mod failure;
 mod get;
 mod getters;
@@ -79,12 +92,14 @@ mod handle;
 mod in_progress;
 mod journal;
 mod keeping;
+mod leaks;
 mod lending;
 mod locked;
 mod locked_pool;
 mod maintenance;
 mod manager;
 mod metrics;
+mod outlet;
 mod pairs;
 mod panics;
 mod pauses;
@@ -93,35 +108,46 @@ mod pooled;
 mod proved_core;
 mod reconfiguring;
 mod reports;
+mod room;
 mod room_waits;
+mod segment_folder;
 mod segments;
 mod settings;
 mod shared;
 mod sleepers;
+mod start;
 mod step;
 mod stored_journal;
+mod storing;
 mod sys;
+mod timeouts;
 mod values;
 mod waits;
+mod woken;
 mod work;
 mod writing;
 
 pub use async_manager::{Async, AsyncManager};
 pub use builder::Builder;
+pub use caller_names::CallerName;
 pub use callers::caller_number;
 pub use error::{Contradiction, Error, OpenError, ReconfigureError, SettingsError};
 pub use failure::Failure;
 pub use get::Get;
 pub use journal::Journal;
 pub use keeping::{Addition, Eviction, Maintenance};
+pub use leaks::{Leak, LeakDetection};
 pub use lending::{Returned, Touched};
 pub use manager::Manager;
 pub use metrics::Metrics;
 pub use pool::{Pool, WeakPool};
 pub use pooled::Pooled;
-pub use segments::{Segment, SegmentFolder, SegmentSink, Segments, SinkFailure};
+pub use segment_folder::SegmentFolder;
+pub use segments::{Segment, SegmentSink, Segments, SinkFailure};
 pub use settings::Abandoned;
+pub use start::Start;
 pub use step::Counts;
+pub use timeouts::Timeout;
 
 // The tests in `src` share what those in `tests` do, which name this crate.
 #[cfg(test)]
@@ -140,10 +166,46 @@ extern crate self as zuphinka;
 /// }
 /// ```
 ///
+/// And a detached object that nobody keeps, and settings that nobody has:
+///
+/// ```compile_fail
+/// #![deny(unused_must_use)]
+/// fn lose<M: zuphinka::Manager>(held: zuphinka::Pooled<M>) {
+///     zuphinka::Pooled::detach(held);
+/// }
+/// ```
+///
+/// ```compile_fail
+/// #![deny(unused_must_use)]
+/// zuphinka::Abandoned::new().on_borrow(true);
+/// ```
+///
+/// ```compile_fail
+/// #![deny(unused_must_use)]
+/// fn set(segments: zuphinka::Segments) {
+///     segments.limit(100);
+/// }
+/// ```
+///
+/// And a manager whose error is none of std's:
+///
+/// ```compile_fail
+/// struct Numbers;
+///
+/// impl zuphinka::Manager for Numbers {
+///     type Object = u64;
+///     type Error = ();
+///
+///     fn make(&self, id: u64) -> Result<u64, ()> {
+///         Ok(id)
+///     }
+/// }
+/// ```
+///
 /// And a literal of a struct that may get more fields:
 ///
 /// ```compile_fail
-/// zuphinka::Abandoned { on_borrow: true, ..zuphinka::Abandoned::new() };
+/// let _ = zuphinka::Abandoned { on_borrow: true, ..zuphinka::Abandoned::new() };
 /// ```
 #[cfg(doctest)]
 struct Rejected;

@@ -2,18 +2,14 @@
 
 use crate::clock::{Aged, Moment};
 use crate::metrics::Measures;
-use crate::proved_core::Core;
+use crate::proved_core::{CallName, Core};
 use crate::settings::Setup;
 use crate::sleepers::Sleepers;
 use crate::step::StepFault;
 use crate::stored_journal::{Mode, StoredJournal};
 use crate::values::{Loan, Values};
+use crate::woken::LONGEST_WAKE;
 use std::time::{Duration, Instant};
-
-/// Returns the time some milliseconds from now, unless it is too far away.
-pub(crate) fn after(millis: u64) -> Option<Instant> {
-    Instant::now().checked_add(Duration::from_millis(millis))
-}
 
 /// The core, with the values of its idle objects, and with those that it has told to sleep.
 pub(crate) struct LockedPool<T> {
@@ -23,6 +19,8 @@ pub(crate) struct LockedPool<T> {
     pub sleepers: Sleepers,
     pub measures: Measures,
     pub setup: Setup,
+    /// Whether a thread waits, or waited, for the end of all objects.
+    pub is_end_awaited: bool,
     /// The greatest time that the core was told, in milliseconds.
     last_time: u64,
 }
@@ -36,6 +34,7 @@ impl<T> LockedPool<T> {
             sleepers: Sleepers::new(),
             measures: Measures::default(),
             setup,
+            is_end_awaited: false,
             last_time: 0,
         }
     }
@@ -112,6 +111,13 @@ impl<T> LockedPool<T> {
         self.core.next_wake()
     }
 
+    /// Returns the call of a task that was woken long ago, for an object or for room in the journal, and has not been polled since then.
+    pub fn take_unheeded(&mut self) -> Option<CallName> {
+        let for_object = self.sleepers.woken.take_older(LONGEST_WAKE);
+        let wakers = &mut self.journal.room_wakers;
+        for_object.or_else(|| wakers.woken.take_older(LONGEST_WAKE))
+    }
+
     /// Returns the number of threads that a call that waits, with its ticket, waits for at most: those that have an object, and those that wait
     /// before it or were woken.
     pub fn threads_before(&mut self, ticket: u64) -> usize {
@@ -161,14 +167,14 @@ impl<T> LockedPool<T> {
 
     /// Plans the next segment of a journal that was cut.
     fn plan_segment(&mut self) {
-        let room = self.core.room();
-        self.journal.cut(room);
+        let (room, counts) = (self.core.room(), self.core.counts());
+        self.journal.cut(room, counts);
     }
 
-    /// Returns until when a call that begins to wait now does so, by the settings.
-    pub fn end_of_wait(&self) -> Option<Instant> {
-        let most = u64::try_from(self.setup.settings.max_wait_millis);
-        most.ok().and_then(after)
+    /// Returns until when a call that began to wait at an instant does so, by the settings.
+    pub fn end_of_wait(&self, since: Instant) -> Option<Instant> {
+        let most = u64::try_from(self.setup.settings.max_wait_millis).ok()?;
+        since.checked_add(Duration::from_millis(most))
     }
 
     /// Returns whether the journal has room for any call.

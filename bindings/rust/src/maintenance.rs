@@ -6,46 +6,69 @@ use crate::manager::Manager;
 use crate::panics::{drop_quietly, unless_it_panics};
 use crate::shared::Shared;
 use std::io;
-use std::sync::{Arc, Condvar, Mutex, PoisonError, Weak};
-use std::thread::{self, JoinHandle};
-use std::time::{Duration, Instant};
+use std::sync::{Arc, Condvar, Mutex, MutexGuard, PoisonError, Weak};
+use std::thread::{self, ThreadId};
+use std::time::Duration;
 
 /// The shortest time between two rounds.
 const SHORTEST: Duration = Duration::from_millis(1);
 
-/// Tells a maintenance thread to end.
+/// How far a maintenance thread is.
+#[derive(Clone, Copy, Default, PartialEq, PartialOrd)]
+enum Stage {
+    #[default]
+    Works,
+    /// It is to end once it has done its round.
+    IsToEnd,
+    HasEnded,
+}
+
+/// What a pool and its maintenance thread tell each other.
 #[derive(Default)]
-struct Stop {
-    is_over: Mutex<bool>,
+struct Progress {
+    stage: Mutex<Stage>,
     told: Condvar,
 }
 
-impl Stop {
-    fn tell(&self) {
-        *self.is_over.lock().unwrap_or_else(PoisonError::into_inner) = true;
+impl Progress {
+    fn stage(&self) -> MutexGuard<'_, Stage> {
+        self.stage.lock().unwrap_or_else(PoisonError::into_inner)
+    }
+
+    /// Tells that the thread is as far as this.
+    fn tell(&self, next: Stage) {
+        let mut stage = self.stage();
+        if *stage < next {
+            *stage = next;
+        }
+        drop(stage);
         self.told.notify_all();
     }
 
-    /// Waits for a time, or until it is told. Returns whether it was.
-    fn wait(&self, time: Duration) -> bool {
-        let end = Instant::now().checked_add(time);
-        let mut is_over = self.is_over.lock().unwrap_or_else(PoisonError::into_inner);
-        while !*is_over {
-            let left = end.map_or(time, |end| end.saturating_duration_since(Instant::now()));
-            if left.is_zero() {
-                break;
-            }
-            let waited = self.told.wait_timeout(is_over, left);
-            is_over = waited.unwrap_or_else(PoisonError::into_inner).0;
-        }
-        *is_over
+    /// Waits until the thread is as far as this, or for a time. Returns whether it is.
+    fn wait(&self, wanted: Stage, time: Duration) -> bool {
+        let stage = self.stage();
+        let waited = self
+            .told
+            .wait_timeout_while(stage, time, |stage| *stage < wanted);
+        *waited.unwrap_or_else(PoisonError::into_inner).0 >= wanted
     }
 }
 
 /// A maintenance thread.
+#[derive(Clone)]
 pub(crate) struct Maintainer {
-    stop: Arc<Stop>,
-    thread: JoinHandle<()>,
+    progress: Arc<Progress>,
+    thread: ThreadId,
+}
+
+/// Tells that the thread has ended, at its drop.
+struct End(Arc<Progress>);
+
+impl Drop for End {
+    fn drop(&mut self) {
+        self.0.tell(Stage::HasEnded);
+    }
 }
 
 /// Starts a maintenance thread for a pool.
@@ -57,26 +80,26 @@ impl Maintainer {
         pool: &Arc<Shared<M>>,
         time: Duration,
     ) -> io::Result<Maintainer> {
-        let stop = Arc::new(Stop::default());
-        let (weak, told) = (Arc::downgrade(pool), Arc::clone(&stop));
+        let progress = Arc::new(Progress::default());
+        let (weak, end) = (Arc::downgrade(pool), End(Arc::clone(&progress)));
         let time = time.max(SHORTEST);
         let thread = thread::Builder::new()
             .name("zuphinka".to_owned())
-            .spawn(move || while maintain(&weak) && !told.wait(time) {})?;
-        Ok(Maintainer { stop, thread })
+            .spawn(move || while maintain(&weak) && !end.0.wait(Stage::IsToEnd, time) {})?;
+        Ok(Maintainer {
+            progress,
+            thread: thread.thread().id(),
+        })
     }
 
-    /// Tells the thread to end once it has done its round.
+    /// Tells the thread to end once it has done its round. Nothing waits for that: the round may wait for this thread.
     pub fn stop(&self) {
-        self.stop.tell();
+        self.progress.tell(Stage::IsToEnd);
     }
 
-    /// Ends the thread, and waits until it has done its round; unless it is this one, which had the last handle.
-    pub fn join(self) {
-        self.stop();
-        if self.thread.thread().id() != thread::current().id() {
-            let _ = self.thread.join();
-        }
+    /// Waits until the thread has ended, or for a time; not at all if it is this one. Returns whether it has.
+    pub fn wait(&self, time: Duration) -> bool {
+        self.thread == thread::current().id() || self.progress.wait(Stage::HasEnded, time)
     }
 }
 

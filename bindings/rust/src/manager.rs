@@ -1,5 +1,6 @@
 //! What a user implements: a manager makes, tests and destroys the objects of a pool.
 
+use std::error;
 use std::future::Future;
 
 /// Makes, activates, validates, passivates and destroys the objects of a pool.
@@ -37,12 +38,42 @@ use std::future::Future;
 ///     Ok(matches!(peeked, Err(error) if error.kind() == io::ErrorKind::WouldBlock))
 /// }
 /// ```
-pub trait Manager: Send + Sync {
+pub trait Manager: Send + Sync + 'static {
     /// The objects that are lent.
     type Object: Send;
 
-    /// Why an object could not be made, activated or passivated, or did not pass a test.
-    type Error;
+    /// Why an object could not be made, activated or passivated, or did not pass a test. So each [`Error`](crate::Error) of a pool is an error of std,
+    /// with this one as its source, and `pool.get()?` works in a function that fails with a `Box<dyn Error + Send + Sync>`.
+    ///
+    /// If all that is known is a text or such a box, [`io::Error::other`](std::io::Error::other) makes an error of it. A manager that never fails
+    /// has [`Infallible`](std::convert::Infallible).
+    ///
+    /// ```
+    /// use std::error::Error;
+    /// use std::io;
+    /// use zuphinka::{Manager, Pool};
+    ///
+    /// struct Sessions;
+    ///
+    /// impl Manager for Sessions {
+    ///     type Object = String;
+    ///     type Error = io::Error;
+    ///
+    ///     fn make(&self, id: u64) -> io::Result<String> {
+    ///         Err(io::Error::other(format!("no session {id}")))
+    ///     }
+    /// }
+    ///
+    /// fn use_one<M: Manager>(pool: &Pool<M>) -> Result<(), Box<dyn Error + Send + Sync>> {
+    ///     let _held = pool.get()?;
+    ///     Ok(())
+    /// }
+    ///
+    /// let error = use_one(&Pool::new(Sessions)?).unwrap_err();
+    /// assert_eq!(error.source().unwrap().to_string(), "no session 0");
+    /// # Ok::<(), zuphinka::OpenError>(())
+    /// ```
+    type Error: error::Error + Send + Sync + 'static;
 
     /// Whether [`activate`](Manager::activate) does anything. If this is false, it is never called: then a borrow of an idle object
     /// takes the pool's lock once instead of twice, unless objects are validated before they are lent (`testOnBorrow`).
@@ -87,8 +118,8 @@ pub trait Manager: Send + Sync {
     ///
     /// # Errors
     ///
-    /// The object cannot be used, for this reason. [`Failure::Test`](crate::Failure::Test) has the reason. If the object is new, the call fails
-    /// with [`Error::CreateTest`](crate::Error::CreateTest) or [`Error::BorrowTest`](crate::Error::BorrowTest), which have none.
+    /// The object cannot be used, for this reason. [`Failure::Test`](crate::Failure::Test) has it, or if the object is new, the error of the call:
+    /// [`Error::CreateTest`](crate::Error::CreateTest) or [`Error::BorrowTest`](crate::Error::BorrowTest).
     fn try_validate(&self, object: &mut Self::Object) -> Result<bool, Self::Error> {
         Ok(self.validate(object))
     }

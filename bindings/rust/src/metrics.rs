@@ -80,7 +80,7 @@ pub(crate) struct Snapshot {
 /// | `zuphinka_created_objects_total` | counter | objects that the pool asked the manager to make |
 /// | `zuphinka_destroyed_objects_total` | counter | objects that were destroyed, detached or could not be made, and those that were reclaimed |
 /// | `zuphinka_borrows_total` | counter | borrows that got an object |
-/// | `zuphinka_timeouts_total` | counter | borrows that ended with [`Error::TimedOut`](crate::Error::TimedOut), and not tasks that gave up |
+/// | `zuphinka_timeouts_total` | counter | borrows that ended with [`Error::TimedOut`](crate::Error::TimedOut), for an object or for the sink, and not tasks that gave up |
 /// | `zuphinka_wait_seconds` | histogram | how long the borrows took that got an object, calls of the manager included |
 /// | `zuphinka_loan_seconds` | histogram | how long objects were lent, until returned, invalidated or detached; not of reclaimed ones |
 ///

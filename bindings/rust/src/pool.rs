@@ -11,8 +11,9 @@ use crate::pooled::Pooled;
 use crate::shared::WaitLimit;
 use crate::step::Counts;
 use std::fmt;
+use std::future::Future;
 use std::io::{self, Write};
-use std::sync::Arc;
+use std::sync::{Arc, Weak};
 use std::time::{Duration, Instant};
 
 /// A pool that threads share. A clone is a handle of the same pool.
@@ -21,10 +22,26 @@ use std::time::{Duration, Instant};
 /// other without the manager, at most 64; the manager is called without the lock. Each step makes one entry of the journal. It has the number of the
 /// calling thread ([`caller_number`](crate::caller_number)), and the time in milliseconds since the pool was opened.
 ///
-/// When the last handle and the last lent object are gone, the pool is closed, and the rest of its journal is stored. A thread that is to end with
-/// the pool, as one that maintains it, has a [`WeakPool`] instead of a handle.
+/// When the last handle and the last lent object are gone, the pool is closed, and the rest of its journal is stored. The journal is also stored when
+/// the last handle is gone and objects are lent. A thread that is to end with the pool, as one that maintains it, has a [`WeakPool`] instead of a
+/// handle.
 pub struct Pool<M: Manager> {
     shared: Handle<M>,
+    // Dropped after the handle.
+    last: Arc<LastPool<M>>,
+}
+
+/// Stores the journal when the last [`Pool`] is gone and objects are lent that keep the pool open: they may be so for ever.
+struct LastPool<M: Manager>(WeakHandle<M>);
+
+impl<M: Manager> Drop for LastPool<M> {
+    fn drop(&mut self) {
+        if let Some(pool) = self.0.upgrade() {
+            if !pool.is_of_parent() {
+                pool.write_rest();
+            }
+        }
+    }
 }
 
 impl<M: Manager> Pool<M> {
@@ -43,7 +60,8 @@ impl<M: Manager> Pool<M> {
     }
 
     pub(crate) fn of(shared: Handle<M>) -> Pool<M> {
-        Pool { shared }
+        let last = Arc::new(LastPool(shared.downgrade()));
+        Pool { shared, last }
     }
 
     pub(crate) fn shared(&self) -> &crate::shared::Shared<M> {
@@ -58,7 +76,7 @@ impl<M: Manager> Pool<M> {
     /// [`Builder::max_overtakes`] allows, or found what it was woken for taken, a borrow queues behind it, and makes no entry meanwhile.
     ///
     /// With [`Journal::Segments`](crate::Journal::Segments) this call may store a segment. If the journal is full, it waits for the
-    /// thread that stores one. Both waits together are no longer than `maxWaitMillis`.
+    /// thread that stores one ([`Timeout::for_sink`](crate::Timeout::for_sink)). Both waits together are no longer than `maxWaitMillis`.
     ///
     /// An idle object that is not activated, or does not pass the test of `testOnBorrow`, is destroyed, and the borrow continues.
     ///
@@ -95,25 +113,26 @@ impl<M: Manager> Pool<M> {
     /// # Errors
     ///
     /// [`Error::Exhausted`] if there is neither, or if older waiters come first ([`Builder::max_overtakes`]). The other errors are those of
-    /// [`get`](Pool::get), except [`Error::TimedOut`].
+    /// [`get`](Pool::get), except [`Error::TimedOut`], and [`Error::SinkBusy`] if the journal is full while another thread stores a segment.
     pub fn try_get(&self) -> Result<Pooled<M>, Error<M::Error>> {
         match self.shared.borrow(WaitLimit::None) {
             // So the core answers where `maxWaitMillis` is 0.
-            Err(Error::TimedOut) => Err(Error::Exhausted),
+            Err(Error::TimedOut(_)) => Err(Error::Exhausted),
             lent => lent,
         }
     }
 
-    /// Lends an object as [`get`](Pool::get) does, and waits for one no longer than this time, nor than the settings allow. The time does not
-    /// bound what the manager does: if [`make`](Manager::make) takes a minute, so does this call.
+    /// Lends an object as [`get`](Pool::get) does, and waits for one up to this time instead of `maxWaitMillis`. It does not wait if the settings say
+    /// that no borrow does (`blockWhenExhausted`). The time does not bound what the manager does: if [`make`](Manager::make) takes a minute, so does
+    /// this call.
     ///
     /// # Errors
     ///
     /// Those of [`get`](Pool::get).
     pub fn get_timeout(&self, timeout: Duration) -> Result<Pooled<M>, Error<M::Error>> {
         let end = Instant::now().checked_add(timeout);
-        self.shared
-            .borrow(end.map_or(WaitLimit::AsSet, WaitLimit::Until))
+        let lent = self.shared.borrow(WaitLimit::Until(end));
+        lent.map_err(|error| error.within(Some(timeout)))
     }
 
     /// Returns a future that lends an object to a task, as [`get`](Pool::get) lends one to a thread. It needs no runtime. Tasks and threads
@@ -127,7 +146,7 @@ impl<M: Manager> Pool<M> {
     /// takes, so that this does not happen.
     ///
     /// The future has no timer. `maxWaitMillis` ends a wait at the first poll after that time. Only an object, a place, room in the journal, or the
-    /// close of the pool wakes the task. Let your runtime bound the wait, as `tokio::time::timeout` does: you may drop the future at any time.
+    /// close of the pool wakes the task. Bound the wait by a timer of your runtime ([`get_async_until`](Pool::get_async_until)).
     ///
     /// # Errors
     ///
@@ -136,7 +155,46 @@ impl<M: Manager> Pool<M> {
     where
         M: 'static,
     {
-        Get::new(self.shared.clone())
+        Get::new(self.shared.clone(), WaitLimit::AsSet)
+    }
+
+    /// Returns a future that lends an object to a task as [`get_async`](Pool::get_async) does, until the future `limit` is ready, instead of
+    /// `maxWaitMillis`: a timer of your runtime, as `tokio::time::sleep(time)`, or the news that the client is gone. It does not wait if the settings
+    /// say that no borrow does (`blockWhenExhausted`).
+    ///
+    /// The limit bounds also what is awaited of an [`AsyncManager`](crate::AsyncManager): an object that it is making, activating or validating
+    /// then is destroyed. It is polled whenever the borrow is and does not end.
+    ///
+    /// ```
+    /// # struct Numbers;
+    /// # impl zuphinka::Manager for Numbers {
+    /// #     type Object = u64;
+    /// #     type Error = std::convert::Infallible;
+    /// #     fn make(&self, id: u64) -> Result<u64, Self::Error> { Ok(id) }
+    /// # }
+    /// use std::future::Future;
+    /// use zuphinka::{Error, Pool, Pooled};
+    ///
+    /// async fn number(pool: Pool<Numbers>, timer: impl Future) -> Option<u64> {
+    ///     match pool.get_async_until(timer).await {
+    ///         Ok(number) => Some(*number),
+    ///         Err(Error::TimedOut(_)) => None,
+    ///         Err(error) => panic!("{error}"),
+    ///     }
+    /// }
+    /// ```
+    ///
+    /// # Errors
+    ///
+    /// Those of [`get`](Pool::get). [`Error::TimedOut`] if the limit is ready first.
+    pub fn get_async_until<F: Future>(
+        &self,
+        limit: F,
+    ) -> impl Future<Output = Result<Pooled<M>, Error<M::Error>>>
+    where
+        M: 'static,
+    {
+        Get::new(self.shared.clone(), WaitLimit::Until(None)).until(limit)
     }
 
     /// Makes an object and adds it to the idle ones, if a place is free.
@@ -204,13 +262,44 @@ impl<M: Manager> Pool<M> {
 
     /// Closes the pool, destroys the idle objects, and returns their number. A borrow that waits or begins fails
     /// ([`Error::Closed`]). One that is making or activating its object now still gets it. An object that is returned later is destroyed. A second
-    /// close only destroys idle objects that are left. A close cannot fail: room and memory for the first are set aside.
+    /// close only destroys idle objects that are left. A close cannot fail: room and memory for the first are set aside. It stores the journal before it
+    /// returns, if that has a sink, whose failure goes to [`Builder::on_error`].
     ///
     /// # Panics
     ///
     /// If the manager panics in [`destroy`](Manager::destroy): the other objects are destroyed before the first panic continues.
     pub fn close(&self) -> u64 {
         self.shared.close()
+    }
+
+    /// Closes the pool as [`close`](Pool::close) does, and waits: until each object that is lent or worked on is returned and destroyed, and the thread of
+    /// [`Builder::maintain_every`] has done its round, but not after this time. Then it hands the rest of the journal to its sink. Returns whether
+    /// both came in time. Otherwise [`counts`](Pool::counts) says what is left, and it may be called again.
+    ///
+    /// The time bounds neither what the manager does in this thread, nor the sink. Abandoned objects that were reclaimed are not waited for.
+    ///
+    /// ```
+    /// # use std::time::Duration;
+    /// # struct Numbers;
+    /// # impl zuphinka::Manager for Numbers {
+    /// #     type Object = u64;
+    /// #     type Error = std::convert::Infallible;
+    /// #     fn make(&self, id: u64) -> Result<u64, Self::Error> { Ok(id) }
+    /// # }
+    /// let pool = zuphinka::Pool::new(Numbers)?;
+    /// let lent = pool.get()?;
+    /// assert!(!pool.close_and_wait(Duration::from_millis(5)));
+    /// drop(lent);
+    /// assert!(pool.close_and_wait(Duration::from_secs(10)));
+    /// # Ok::<(), Box<dyn std::error::Error + Send + Sync>>(())
+    /// ```
+    ///
+    /// # Panics
+    ///
+    /// As [`close`](Pool::close), and then it does not wait.
+    #[must_use = "objects may be left"]
+    pub fn close_and_wait(&self, longest: Duration) -> bool {
+        self.shared.close_and_wait(longest)
     }
 
     /// Returns whether the pool is closed. It takes the lock.
@@ -230,8 +319,8 @@ impl<M: Manager> Pool<M> {
     /// # struct Numbers;
     /// # impl zuphinka::Manager for Numbers {
     /// #     type Object = u64;
-    /// #     type Error = ();
-    /// #     fn make(&self, id: u64) -> Result<u64, ()> { Ok(id) }
+    /// #     type Error = std::convert::Infallible;
+    /// #     fn make(&self, id: u64) -> Result<u64, Self::Error> { Ok(id) }
     /// # }
     /// let pool = zuphinka::Pool::new(Numbers)?;
     /// let lent = pool.get().unwrap();
@@ -318,8 +407,8 @@ impl<M: Manager> Pool<M> {
     /// # struct Numbers;
     /// # impl Manager for Numbers {
     /// #     type Object = u64;
-    /// #     type Error = ();
-    /// #     fn make(&self, id: u64) -> Result<u64, ()> { Ok(id) }
+    /// #     type Error = std::convert::Infallible;
+    /// #     fn make(&self, id: u64) -> Result<u64, Self::Error> { Ok(id) }
     /// # }
     /// # let folder = std::env::temp_dir().join(format!("zuphinka-cut-{}", std::process::id()));
     /// # std::fs::create_dir(&folder)?;
@@ -396,8 +485,8 @@ impl<M: Manager> Pool<M> {
     /// # struct Numbers;
     /// # impl zuphinka::Manager for Numbers {
     /// #     type Object = u64;
-    /// #     type Error = ();
-    /// #     fn make(&self, id: u64) -> Result<u64, ()> { Ok(id) }
+    /// #     type Error = std::convert::Infallible;
+    /// #     fn make(&self, id: u64) -> Result<u64, Self::Error> { Ok(id) }
     /// # }
     /// let pool = zuphinka::Pool::builder().max_total(1).build(Numbers)?;
     /// let held = pool.get().unwrap();
@@ -422,7 +511,13 @@ impl<M: Manager> Pool<M> {
     pub fn downgrade(&self) -> WeakPool<M> {
         WeakPool {
             shared: self.shared.downgrade(),
+            last: Arc::downgrade(&self.last),
         }
+    }
+
+    /// Returns the name that [`Builder::name`] gave the pool.
+    pub fn name(&self) -> Option<&str> {
+        self.shared.policy.name.as_deref()
     }
 
     /// Returns the manager.
@@ -435,6 +530,7 @@ impl<M: Manager> Clone for Pool<M> {
     fn clone(&self) -> Pool<M> {
         Pool {
             shared: self.shared.clone(),
+            last: Arc::clone(&self.last),
         }
     }
 }
@@ -459,8 +555,8 @@ impl<M: Manager> fmt::Debug for Pool<M> {
 /// # struct Numbers;
 /// # impl Manager for Numbers {
 /// #     type Object = u64;
-/// #     type Error = ();
-/// #     fn make(&self, id: u64) -> Result<u64, ()> { Ok(id) }
+/// #     type Error = std::convert::Infallible;
+/// #     fn make(&self, id: u64) -> Result<u64, Self::Error> { Ok(id) }
 /// # }
 /// let pool = Pool::builder().min_idle(1).build(Numbers)?;
 /// let weak = pool.downgrade();
@@ -477,13 +573,17 @@ impl<M: Manager> fmt::Debug for Pool<M> {
 /// ```
 pub struct WeakPool<M: Manager> {
     shared: WeakHandle<M>,
+    last: Weak<LastPool<M>>,
 }
 
 impl<M: Manager> WeakPool<M> {
     /// Returns a handle of the pool, or none if the last handle and the last lent object are gone.
     pub fn upgrade(&self) -> Option<Pool<M>> {
         let shared = self.shared.upgrade()?;
-        Some(Pool { shared })
+        Some(match self.last.upgrade() {
+            Some(last) => Pool { shared, last },
+            None => Pool::of(shared),
+        })
     }
 }
 
@@ -491,6 +591,7 @@ impl<M: Manager> Clone for WeakPool<M> {
     fn clone(&self) -> WeakPool<M> {
         WeakPool {
             shared: self.shared.clone(),
+            last: Weak::clone(&self.last),
         }
     }
 }

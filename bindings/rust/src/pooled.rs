@@ -29,12 +29,25 @@ const LENT: &str = "a guard has its object until it is dropped";
 
 impl<M: Manager> Pooled<M> {
     #[inline]
-    pub(crate) fn new(pool: Handle<M>, loan: Loan<Item<M>>) -> Pooled<M> {
+    pub(crate) fn new(pool: Handle<M>, loan: Loan<Item<M>>, caller: u32) -> Pooled<M> {
+        if let Some(leaks) = &pool.policy.leaks {
+            leaks.begin(loan.id, caller);
+        }
         Pooled {
             pool,
             loan: Some(loan),
             was_panicking: thread::panicking(),
         }
+    }
+
+    /// Ends the loan. Returns it, unless it has ended.
+    #[inline]
+    fn end(&mut self) -> Option<Loan<Item<M>>> {
+        let loan = self.loan.take()?;
+        if let Some(leaks) = &self.pool.policy.leaks {
+            leaks.end(loan.id);
+        }
+        Some(loan)
     }
 
     /// Returns the id of the object in the journal.
@@ -44,19 +57,20 @@ impl<M: Manager> Pooled<M> {
 
     /// Returns the object to the pool, as a drop does, and says what became of it.
     pub fn give_back(mut this: Pooled<M>) -> Returned {
-        let loan = this.loan.take().expect(LENT);
+        let loan = this.end().expect(LENT);
         this.pool.give_back(loan)
     }
 
     /// Returns the object as one that cannot be used any more: it is destroyed.
     pub fn invalidate(mut this: Pooled<M>) -> Returned {
-        let loan = this.loan.take().expect(LENT);
+        let loan = this.end().expect(LENT);
         this.pool.invalidate(loan)
     }
 
     /// Takes the object out of the pool: its place is free, and the object is the caller's. The manager does not destroy it.
+    #[must_use = "the object is the caller's; `invalidate` has the manager destroy it"]
     pub fn detach(mut this: Pooled<M>) -> M::Object {
-        let Loan { id, token, object } = this.loan.take().expect(LENT);
+        let Loan { id, token, object } = this.end().expect(LENT);
         let detached = Loan {
             id,
             token,
@@ -92,7 +106,7 @@ impl<M: Manager> DerefMut for Pooled<M> {
 
 impl<M: Manager> Drop for Pooled<M> {
     fn drop(&mut self) {
-        let Some(loan) = self.loan.take() else {
+        let Some(loan) = self.end() else {
             return;
         };
         if !thread::panicking() {

@@ -1,4 +1,4 @@
-//! The proved core, over its C library. All code that is `unsafe` is here.
+//! The proved core, over its C library. All code that is `unsafe` is here and in `exits`, which asks C's library to be told of the end.
 
 use crate::call::{action_of, Action, End, Kind, Report};
 use crate::step::{Answer, Counts, Input, Outcome, StepFault};
@@ -18,7 +18,8 @@ pub(crate) struct Core {
 // SAFETY: the library has no state except that of the handle, whose calls may come from any thread, one at a time.
 unsafe impl Send for Core {}
 
-/// The beginning of a call: its kind, its caller and the time, in milliseconds. It may be for an object, which has an id and a token.
+/// The beginning of a call: its kind, its caller and the time, in milliseconds. It may be for an object, which has an id and a token. A borrow has for
+/// its id by how many milliseconds it may wait longer than the settings say.
 #[derive(Clone, Copy, Debug)]
 pub(crate) struct Start {
     pub kind: Kind,

@@ -74,6 +74,8 @@ fn error_of(error: OpenError) -> ReconfigureError {
         OpenError::Settings(error) => ReconfigureError::Settings(error),
         OpenError::Contradiction(found) => ReconfigureError::Contradiction(found),
         OpenError::OutOfMemory => ReconfigureError::OutOfMemory,
-        OpenError::Thread(_) => unreachable!("no thread is started"),
+        OpenError::OutOfRange(_) | OpenError::Thread(_) => {
+            unreachable!("no builder is asked, and no thread is started")
+        }
     }
 }

@@ -2,6 +2,7 @@
 
 use crate::panics::unless_it_panics;
 use crate::proved_core::CallName;
+use crate::woken::WokenTasks;
 use std::task::Waker;
 
 /// The number of a task that waits, its waker, and its call.
@@ -12,7 +13,7 @@ type Waiting = (u64, Waker, CallName);
 pub(crate) struct RoomWakers {
     wakers: Vec<Waiting>,
     /// The numbers of those that were called, until their calls go on.
-    rung: Vec<u64>,
+    pub woken: WokenTasks,
     /// The number of the last one.
     last: u64,
 }
@@ -35,26 +36,21 @@ impl RoomWakers {
     /// Reserves memory for one more waker, and for the number of each. Returns whether there is enough.
     fn reserve(&mut self) -> bool {
         let most = self.wakers.len() + 1;
-        self.wakers.try_reserve(1).is_ok() && self.rung.try_reserve(most).is_ok()
+        self.wakers.try_reserve(1).is_ok() && self.woken.reserve(most)
     }
 
     /// A call goes on. Takes its waker by its number, if it was not called.
     pub fn take(&mut self, number: u64) -> Option<Waker> {
-        self.forget_ring(number);
+        self.woken.forget(number);
         let position = self.wakers.iter().position(|one| one.0 == number)?;
         Some(self.wakers.swap_remove(position).1)
     }
 
-    /// Returns whether a waker was called, and its call has not gone on since then. It counts as not called from now on.
-    pub fn forget_ring(&mut self, number: u64) -> bool {
-        let position = self.rung.iter().position(|rung| *rung == number);
-        let rung = position.map(|position| self.rung.swap_remove(position));
-        rung.is_some()
-    }
-
     /// Takes all wakers, which are called.
     pub fn take_all(&mut self) -> Vec<Waiting> {
-        self.rung.extend(self.wakers.iter().map(|one| one.0));
+        for (number, _, call) in &self.wakers {
+            self.woken.push(*number, *call);
+        }
         std::mem::take(&mut self.wakers)
     }
 }
@@ -101,7 +97,7 @@ mod tests {
         assert_eq!(counter.0.load(Ordering::Relaxed), 2);
         // The first one goes on, and the last one does not.
         assert!(wakers.take(1).is_none());
-        let forgotten = [1, 3, 3].map(|number| wakers.forget_ring(number));
+        let forgotten = [1, 3, 3].map(|number| wakers.woken.forget(number));
         assert_eq!(forgotten, [false, true, false]);
     }
 }

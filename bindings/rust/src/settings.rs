@@ -57,6 +57,7 @@ pub(crate) struct Setup {
 /// assert_eq!(abandoned.timeout, Duration::from_secs(300));
 /// ```
 #[derive(Clone, Copy, Debug, PartialEq, Eq)]
+#[must_use = "it does nothing until a builder has it"]
 #[non_exhaustive]
 pub struct Abandoned {
     /// Whether each borrow first reclaims abandoned objects, if few objects and places are left (`removeAbandonedOnBorrow`, false).

@@ -3,17 +3,19 @@
 use crate::call::Kind;
 use crate::clock::{Aged, Clock, Moment};
 use crate::failure::Failure;
+use crate::leaks::LeakWatch;
 use crate::locked::{Guard, Locked};
 use crate::locked_pool::LockedPool;
 use crate::maintenance::Maintainer;
 use crate::manager::Manager;
 use crate::metrics::Snapshot;
+use crate::outlet::Outlet;
 use crate::panics::unless_it_panics;
 use crate::pauses::{count_processors, Pauses};
 use crate::reports::Reports;
 use crate::settings::{Settings, Setup};
 use crate::sleepers::{OldestSleeper, Wakes};
-use crate::writing::Outlet;
+use crate::storing::Orders;
 use std::sync::{Arc, Condvar, Mutex, MutexGuard, PoisonError};
 use std::time::{Duration, Instant};
 use std::{mem, process, thread};
@@ -22,8 +24,8 @@ use std::{mem, process, thread};
 #[derive(Clone, Copy)]
 pub(crate) enum WaitLimit {
     None,
-    /// Until this instant, and no longer than the settings allow.
-    Until(Instant),
+    /// Until this instant, or without a limit, whatever the settings allow.
+    Until(Option<Instant>),
     AsSet,
 }
 
@@ -36,6 +38,9 @@ pub(crate) struct Policy<M: Manager> {
     /// How often a waiter is overtaken.
     pub max_overtakes: u32,
     pub reports: Reports<M>,
+    /// The name of the pool in messages.
+    pub name: Option<Arc<str>>,
+    pub leaks: Option<LeakWatch>,
 }
 
 impl<M: Manager> Policy<M> {
@@ -61,6 +66,8 @@ pub(crate) struct Shared<M: Manager> {
     clock: Clock,
     /// The journal was cut, or the thread that cut it is done.
     pub written: Condvar,
+    /// An object or a call has ended, if a thread waits for the end of all.
+    pub ended: Condvar,
     /// Held by a thread that drains the journal. It may take the lock of the state.
     pub draining: Mutex<()>,
     /// Where segments go.
@@ -68,6 +75,8 @@ pub(crate) struct Shared<M: Manager> {
     pub manager: Arc<M>,
     pub policy: Policy<M>,
     maintainer: Mutex<Option<Maintainer>>,
+    /// The thread that stores the journal.
+    storer: Mutex<Option<Arc<Orders>>>,
     /// The process that opened the pool.
     process: u32,
 }
@@ -93,11 +102,13 @@ impl<M: Manager> Shared<M> {
             state: Locked::new(state),
             clock,
             written: Condvar::new(),
+            ended: Condvar::new(),
             draining: Mutex::new(()),
             outlet,
             manager: Arc::new(manager),
             policy,
             maintainer: Mutex::new(None),
+            storer: Mutex::new(None),
             process: process::id(),
         }
     }
@@ -105,6 +116,10 @@ impl<M: Manager> Shared<M> {
     pub fn maintainer(&self) -> MutexGuard<'_, Option<Maintainer>> {
         let maintainer = self.maintainer.lock();
         maintainer.unwrap_or_else(PoisonError::into_inner)
+    }
+
+    pub fn storer(&self) -> MutexGuard<'_, Option<Arc<Orders>>> {
+        self.storer.lock().unwrap_or_else(PoisonError::into_inner)
     }
 
     /// Returns the settings that the pool has now.
@@ -139,6 +154,7 @@ impl<M: Manager> Shared<M> {
         mem::forget(Arc::clone(&self.manager));
         mem::forget(mem::replace(&mut self.clock, Clock::Since(Instant::now())));
         self.policy.reports.leak();
+        mem::forget(self.policy.leaks.take());
         let maintainer = self.maintainer.get_mut();
         mem::forget(maintainer.unwrap_or_else(PoisonError::into_inner).take());
     }
@@ -161,6 +177,15 @@ impl<M: Manager> Shared<M> {
         match self.clock.read() {
             Some(moment) => moment,
             None => Moment::of_millis(self.lock().last_time()),
+        }
+    }
+
+    /// Returns until when a call that began to wait at an instant does so by the settings, if the pool's clock is the user's: such a clock may be set
+    /// back, or stand still.
+    pub fn end_of_wait(&self, state: &LockedPool<M::Object>, since: Instant) -> Option<Instant> {
+        match self.clock {
+            Clock::Since(_) => None,
+            Clock::Given(_) => state.end_of_wait(since),
         }
     }
 
@@ -248,12 +273,24 @@ impl<M: Manager> Shared<M> {
             state = self.lock();
             if let Err(call) = rung {
                 // A waker may let its task go on, and panic then.
-                wakes.push(match state.sleepers.forget_wake(ticket) {
+                wakes.push(match state.sleepers.woken.forget(ticket) {
                     true => state.core.give_up(call),
                     false => state.next_wake(),
                 });
             }
         }
+    }
+
+    /// Passes the wakes on of tasks that have not been polled for long: their calls are given up, and others woken in their place. Frees the lock
+    /// meanwhile, and takes it again.
+    pub fn pass_wakes_on<'a>(&'a self, mut state: Held<'a, M>) -> Held<'a, M> {
+        while let Some(call) = state.take_unheeded() {
+            let mut wakes = Wakes::default();
+            wakes.push(state.core.give_up(call));
+            self.leave_with_loan(state, wakes);
+            state = self.lock();
+        }
+        state
     }
 
     /// Sleeps until the call with a ticket, which is this thread's, is woken or the time is over. It pauses before, in which a short loan ends:

@@ -2,6 +2,7 @@
 
 use crate::panics::unless_it_panics;
 use crate::proved_core::CallName;
+use crate::woken::WokenTasks;
 use std::collections::VecDeque;
 use std::mem;
 use std::sync::atomic::{AtomicU64, Ordering};
@@ -91,7 +92,9 @@ impl Wakes {
 pub(crate) struct Sleepers {
     asleep: VecDeque<(u64, Alarm)>,
     /// The tickets of tasks whose wakers were called, until their calls go on.
-    rung: VecDeque<u64>,
+    pub woken: WokenTasks,
+    /// Whether a task sleeps, or has slept.
+    has_tasks: bool,
     oldest: Arc<OldestSleeper>,
 }
 
@@ -99,7 +102,8 @@ impl Sleepers {
     pub fn new() -> Sleepers {
         Sleepers {
             asleep: VecDeque::new(),
-            rung: VecDeque::new(),
+            woken: WokenTasks::default(),
+            has_tasks: false,
             oldest: Arc::new(OldestSleeper(AtomicU64::new(u64::MAX))),
         }
     }
@@ -108,6 +112,11 @@ impl Sleepers {
     #[inline]
     pub fn len(&self) -> usize {
         self.asleep.len()
+    }
+
+    /// Returns whether a task sleeps, or has slept.
+    pub fn has_tasks(&self) -> bool {
+        self.has_tasks
     }
 
     /// Returns how many sleep with lower tickets.
@@ -143,6 +152,7 @@ impl Sleepers {
     ///
     /// There is no memory. It does not sleep, and its alarm is returned.
     pub fn sleep(&mut self, ticket: u64, alarm: Alarm) -> Result<Option<Alarm>, Alarm> {
+        self.has_tasks |= matches!(alarm, Alarm::Task(..));
         match self.position(ticket) {
             Ok(position) => Ok(Some(mem::replace(&mut self.asleep[position].1, alarm))),
             Err(_) if !self.reserve() => Err(alarm),
@@ -157,28 +167,22 @@ impl Sleepers {
     /// Reserves memory for one more sleeper, and for the wake of each. Returns whether there is enough.
     fn reserve(&mut self) -> bool {
         let most = self.asleep.len() + 1;
-        self.asleep.try_reserve(1).is_ok() && self.rung.try_reserve(most).is_ok()
+        self.asleep.try_reserve(1).is_ok() && self.woken.reserve(most)
     }
 
     /// One is to be woken. Returns its alarm, if it sleeps.
     pub fn wake(&mut self, ticket: u64) -> Option<Alarm> {
         let alarm = self.leave(ticket)?;
-        if let Alarm::Task(..) = alarm {
-            self.rung.push_back(ticket);
+        if let Alarm::Task(_, call) = &alarm {
+            self.woken.push(ticket, *call);
         }
         Some(alarm)
     }
 
     /// A call goes on. Returns its alarm, if it slept.
     pub fn go_on(&mut self, ticket: u64) -> Option<Alarm> {
-        self.forget_wake(ticket);
+        self.woken.forget(ticket);
         self.leave(ticket)
-    }
-
-    /// Returns whether a task was woken, and its call has not gone on since then. It counts as not woken from now on.
-    pub fn forget_wake(&mut self, ticket: u64) -> bool {
-        let position = self.rung.iter().position(|rung| *rung == ticket);
-        position.is_some_and(|position| self.rung.remove(position).is_some())
     }
 
     /// One sleeps no longer. Returns its alarm, if it slept.
@@ -274,7 +278,7 @@ mod tests {
             assert!(sleepers.wake(ticket).is_none());
         }
         assert!(sleepers.go_on(3).is_none());
-        let woken = [1, 2, 3, 4, 4].map(|ticket| sleepers.forget_wake(ticket));
+        let woken = [1, 2, 3, 4, 4].map(|ticket| sleepers.woken.forget(ticket));
         assert_eq!(woken, [false, true, false, true, false]);
     }
 

@@ -1,6 +1,8 @@
 //! The state of a pool's journal that the pool's lock protects, beside the entries themselves, which the core has.
 
+use crate::room::NoRoom;
 use crate::room_waits::RoomWakers;
+use crate::step::Counts;
 use std::sync::Arc;
 use std::thread::{self, ThreadId};
 
@@ -21,8 +23,22 @@ pub(crate) struct CutSegment {
     pub position: u64,
     pub entries: u64,
     pub text: Vec<u8>,
+    /// The number of bytes of its base.
+    pub base_size: usize,
     /// The settings that the pool had then, in TOML.
     pub settings: Arc<str>,
+    /// How many entries may be before its own, so that these with those outstanding after them are within the limit.
+    pub most_before: u64,
+}
+
+/// The greatest number of entries that may be outstanding for an object: while it is made for a borrow.
+const MOST_OUTSTANDING: u64 = 5;
+
+/// The numbers of objects at the last cut.
+#[derive(Clone, Copy, Debug, Default)]
+struct AtCut {
+    present: u64,
+    created: u64,
 }
 
 /// When a segment is to be written, who writes it, and what is not written.
@@ -43,6 +59,9 @@ pub(crate) struct StoredJournal {
     pub room_wakers: RoomWakers,
     /// The thread that drains the journal.
     pub drainer: Option<ThreadId>,
+    /// Whether the sink failed when it was called last.
+    pub has_failed: bool,
+    at_cut: AtCut,
 }
 
 impl StoredJournal {
@@ -57,6 +76,8 @@ impl StoredJournal {
             writer: None,
             room_wakers: RoomWakers::default(),
             drainer: None,
+            has_failed: false,
+            at_cut: AtCut::default(),
         };
         journal.plan(0, room);
         journal
@@ -90,8 +111,19 @@ impl StoredJournal {
     }
 
     /// All entries are cut off, and there is room for `room` more.
-    pub fn cut(&mut self, room: u64) {
+    pub fn cut(&mut self, room: u64, counts: Counts) {
+        self.at_cut = AtCut {
+            present: counts.idle + counts.lent + counts.reserved,
+            created: counts.created,
+        };
         self.plan(0, room);
+    }
+
+    /// Returns how many entries may be before those since the last cut, of which there are `entries`, for a check with a limit.
+    pub fn most_before(&self, limit: u64, entries: u64, counts: Counts) -> u64 {
+        let objects = self.at_cut.present + counts.created - self.at_cut.created;
+        // The close of the pool is outstanding, too.
+        limit.saturating_sub(entries + MOST_OUTSTANDING * objects + 1)
     }
 
     /// Plans the next look at the journal: half of the room is used up then, if no more entries become outstanding.
@@ -106,6 +138,14 @@ impl StoredJournal {
         self.is_due && self.writer.is_none()
     }
 
+    /// Returns why there is no room for a call that has waited for the writer, or may not.
+    pub fn no_room_after_wait(&self) -> NoRoom {
+        match self.has_failed {
+            true => NoRoom::Full,
+            false => NoRoom::Late,
+        }
+    }
+
     /// What failed is tried again after some more entries, of `room` for which there is room.
     pub fn try_later(&mut self, stored: u64, room: u64) {
         self.is_due = false;
@@ -116,6 +156,7 @@ impl StoredJournal {
 #[cfg(test)]
 mod tests {
     use super::{Mode, StoredJournal};
+    use crate::step::Counts;
 
     /// Returns at how many entries the journal is looked at.
     fn looked_at(journal: &StoredJournal) -> u64 {
@@ -132,7 +173,7 @@ mod tests {
         journal.try_later(500, 500);
         assert!(!journal.wants_writer());
         assert_eq!(looked_at(&journal), 625);
-        journal.cut(1_000);
+        journal.cut(1_000, Counts::default());
         assert_eq!(looked_at(&journal), 500);
     }
 
@@ -144,6 +185,27 @@ mod tests {
         assert_eq!(looked_at(&journal), 350);
         journal.look(300, 200);
         assert!(journal.wants_writer());
+    }
+
+    #[test]
+    fn objects_that_are_there_and_new_ones_have_outstanding_entries() {
+        let mut journal = StoredJournal::new(Mode::Segments, 1_000);
+        let counts = |idle, lent, created| Counts {
+            idle,
+            lent,
+            created,
+            ..Counts::default()
+        };
+        assert_eq!(
+            journal.most_before(1_000, 20, counts(1, 2, 3)),
+            1_000 - 20 - 16
+        );
+        journal.cut(900, counts(1, 2, 3));
+        assert_eq!(
+            journal.most_before(1_000, 20, counts(0, 0, 5)),
+            1_000 - 20 - 26
+        );
+        assert_eq!(journal.most_before(40, 20, counts(0, 0, 5)), 0);
     }
 
     #[test]

@@ -2,45 +2,66 @@
 
 use crate::call::{Kind, Report};
 use crate::course::Course;
-use crate::locked_pool::{after, LockedPool};
+use crate::locked_pool::LockedPool;
 use crate::manager::Manager;
 use crate::panics::drop_quietly;
 use crate::pauses::Pauses;
+use crate::room::{NoRoom, Room};
 use crate::shared::{Held, Shared, WaitLimit};
 use crate::sleepers::Alarm;
-use crate::writing::Room;
+use crate::woken::LONGEST_WAKE;
 use std::task::Waker;
 use std::thread;
 use std::time::{Duration, Instant};
 
 impl<M: Manager> Course<M> {
-    /// Returns until when the call waits by its limit; nothing if it is to wait no longer.
-    fn time_left(&self) -> Option<Option<Duration>> {
-        match self.limit {
-            WaitLimit::None => None,
-            WaitLimit::AsSet => Some(None),
-            WaitLimit::Until(end) => match end.saturating_duration_since(Instant::now()) {
-                Duration::ZERO => None,
-                left => Some(Some(left)),
-            },
+    /// Returns how long the call waits on at most by the system's clock, if that bounds it; nothing if it is to wait no longer.
+    fn time_left(
+        &mut self,
+        pool: &Shared<M>,
+        state: &LockedPool<M::Object>,
+    ) -> Option<Option<Duration>> {
+        let now = Instant::now();
+        let since = *self.since.get_or_insert(now);
+        let end = match self.limit {
+            WaitLimit::None => return None,
+            WaitLimit::Until(end) => end,
+            WaitLimit::AsSet => pool.end_of_wait(state, since),
+        };
+        left_until(now, end)
+    }
+
+    /// Returns how long the call waits on at most by the pool's clock, if that bounds it; nothing if its time is over. Of a clock at its end that time
+    /// never comes.
+    fn time_left_by_clock(&self, state: &LockedPool<M::Object>) -> Option<Option<Duration>> {
+        match self.call.until() {
+            None | Some(u64::MAX) => Some(None),
+            Some(until) => {
+                let left = until.saturating_sub(self.time(state));
+                (left > 0).then(|| Some(Duration::from_millis(left)))
+            }
         }
     }
 
-    /// Sleeps from now on, or sleeps on. Returns false if its limit does not allow that, or there is no memory.
+    /// Returns the time, in milliseconds, as the core is told it.
+    fn time(&self, state: &LockedPool<M::Object>) -> u64 {
+        self.at.millis.max(state.last_time())
+    }
+
+    /// Sleeps from now on, or sleeps on. Returns false if its time is over, or there is no memory.
     pub fn fall_asleep(
         &mut self,
+        pool: &Shared<M>,
         state: &mut LockedPool<M::Object>,
         waker: &mut Option<Waker>,
     ) -> bool {
-        let Some(left) = self.time_left() else {
+        let left = self.time_left(pool, state);
+        let (Some(left), Some(left_by_clock)) = (left, self.time_left_by_clock(state)) else {
             return false;
         };
-        let now = self.at.millis.max(state.last_time());
-        let until = self.call.until();
-        // If that time is here and it is to sleep on, the clock is at its end.
-        let set = until.and_then(|until| until.checked_sub(now).filter(|left| *left > 0));
-        let set = set.map(Duration::from_millis);
-        self.longest = left.into_iter().chain(set).min();
+        // It looks whether a task that was woken before it has been polled.
+        let look = state.sleepers.has_tasks().then_some(LONGEST_WAKE);
+        self.longest = [left, left_by_clock, look].into_iter().flatten().min();
         let ticket = self.call.ticket();
         let is_task = waker.is_some();
         let alarm = match waker.take() {
@@ -60,7 +81,7 @@ impl<M: Manager> Course<M> {
 
     /// Returns whether its wait is over by the settings.
     fn is_over(&self, state: &LockedPool<M::Object>) -> bool {
-        let now = self.at.millis.max(state.last_time());
+        let now = self.time(state);
         self.call.until().is_some_and(|until| now >= until)
     }
 
@@ -69,11 +90,12 @@ impl<M: Manager> Course<M> {
     pub fn sleep(&mut self, pool: &Shared<M>) {
         let ticket = self.call.ticket();
         let pauses = Pauses::begin_beside(self.threads, self.longest);
-        let mut state = pool.sleep_until_woken(ticket, pauses, self.longest);
+        let state = pool.sleep_until_woken(ticket, pauses, self.longest);
+        let mut state = pool.pass_wakes_on(state);
         self.at = pool.now_under_lock(&state);
         if !state.sleepers.has(ticket) || self.is_over(&state) {
             self.advance_in(pool, state, Report::Woken, &mut None);
-        } else if !self.fall_asleep(&mut state, &mut None) {
+        } else if !self.fall_asleep(pool, &mut state, &mut None) {
             self.advance_in(pool, state, Report::GivenUp, &mut None);
         }
     }
@@ -81,10 +103,13 @@ impl<M: Manager> Course<M> {
     /// A task that sleeps was polled: it goes on if it was woken or its wait is over, and sleeps on with this waker otherwise.
     pub fn look(&mut self, pool: &Shared<M>, waker: &mut Option<Waker>) {
         self.at = pool.now();
-        let mut state = pool.lock();
+        let mut state = pool.pass_wakes_on(pool.lock());
         let ticket = self.call.ticket();
         if !state.sleepers.has(ticket) || self.is_over(&state) {
             return self.advance_in(pool, state, Report::Woken, waker);
+        }
+        if self.time_left(pool, &state).is_none() {
+            return self.advance_in(pool, state, Report::GivenUp, waker);
         }
         let alarm = waker
             .take()
@@ -98,15 +123,29 @@ impl<M: Manager> Course<M> {
     /// report, unless it is a task that waits.
     #[cold]
     pub fn make_room(&mut self, pool: &Shared<M>, waker: &mut Option<Waker>) -> Option<Report> {
-        let is_made = match waker {
-            Some(_) => return self.look_for_room(pool, waker),
-            None => {
-                let state = pool.lock();
-                let end = self.end_of_wait(&state);
-                pool.make_room(state, self.kind, self.first_stored, end)
-            }
+        if waker.is_some() {
+            return self.look_for_room(pool, waker);
+        }
+        let state = pool.lock();
+        let end = self.end_of_wait(&state, Instant::now());
+        let waits = self.waits_for_room(&state);
+        let made = pool.make_room(state, self.kind, self.first_stored, end);
+        Some(self.note_room(made, waits))
+    }
+
+    /// Returns whether the call waits for room at all.
+    fn waits_for_room(&self, state: &LockedPool<M::Object>) -> bool {
+        !matches!(self.limit, WaitLimit::None) && self.may_wait(state)
+    }
+
+    /// Notes why there is no room, if there is none, for a call that waits for it or may not. Returns the report.
+    fn note_room(&mut self, made: Result<(), NoRoom>, waits: bool) -> Report {
+        self.no_room = match made {
+            Ok(()) => return Report::RoomMade,
+            Err(NoRoom::Late) if !waits => NoRoom::Busy,
+            Err(no_room) => no_room,
         };
-        Some(report_of(is_made))
+        Report::NoRoom
     }
 
     /// Returns whether it may wait for another thread that writes a segment: a borrow may not if the settings say that none waits for an object.
@@ -114,18 +153,21 @@ impl<M: Manager> Course<M> {
         self.kind != Kind::Borrow || state.setup.settings.block_when_exhausted
     }
 
-    /// Returns until when a thread waits for another one that writes a segment: as long as for an object.
-    fn end_of_wait(&self, state: &LockedPool<M::Object>) -> Option<Instant> {
-        let now = self.at.millis.max(state.last_time());
-        let set = match self.call.until() {
-            Some(until) => after(until.saturating_sub(now)),
-            None => state.end_of_wait(),
+    /// Returns until when the call waits for another thread that writes a segment: as long as for an object.
+    fn end_of_wait(&mut self, state: &LockedPool<M::Object>, now: Instant) -> Option<Instant> {
+        let since = *self.since.get_or_insert(now);
+        let end = match self.limit {
+            WaitLimit::None => Some(now),
+            _ if !self.may_wait(state) => Some(now),
+            WaitLimit::Until(end) => end,
+            WaitLimit::AsSet => state.end_of_wait(since),
         };
-        match self.limit {
-            WaitLimit::None => Some(Instant::now()),
-            _ if !self.may_wait(state) => Some(Instant::now()),
-            WaitLimit::Until(end) => set.into_iter().chain([end]).min(),
-            WaitLimit::AsSet => set,
+        match self.time_left_by_clock(state) {
+            None => Some(now),
+            Some(left) => {
+                let by_clock = left.and_then(|left| now.checked_add(left));
+                end.into_iter().chain(by_clock).min()
+            }
         }
     }
 
@@ -133,14 +175,21 @@ impl<M: Manager> Course<M> {
     fn look_for_room(&mut self, pool: &Shared<M>, waker: &mut Option<Waker>) -> Option<Report> {
         self.at = pool.now();
         let mut state = pool.lock();
-        let first = self.first_stored;
+        let (first, now) = (self.first_stored, Instant::now());
         match pool.look_for_room(&mut state, self.kind, first) {
             Room::Made => Some(Report::RoomMade),
-            Room::Lacks => Some(report_of(pool.write_for_room(state, first))),
-            Room::Awaited if self.may_wait(&state) && !self.is_over(&state) => {
+            Room::Lacks => {
+                let made = pool.write_for_room(state, first);
+                Some(self.note_room(made, true))
+            }
+            Room::Awaited if left_until(now, self.end_of_wait(&state, now)).is_some() => {
                 self.await_room(state, waker)
             }
-            Room::Awaited | Room::Refused => Some(Report::NoRoom),
+            Room::Awaited => {
+                let no_room = state.journal.no_room_after_wait();
+                Some(self.note_room(Err(no_room), self.waits_for_room(&state)))
+            }
+            Room::Refused => Some(self.note_room(Err(NoRoom::Full), true)),
         }
     }
 
@@ -174,10 +223,8 @@ impl<M: Manager> Course<M> {
     }
 }
 
-/// Returns the report of a call for which room was to be made.
-fn report_of(is_made: bool) -> Report {
-    match is_made {
-        true => Report::RoomMade,
-        false => Report::NoRoom,
-    }
+/// Returns the time until an instant, if there is one; nothing if it is here.
+fn left_until(now: Instant, end: Option<Instant>) -> Option<Option<Duration>> {
+    let left = end.map(|end| end.saturating_duration_since(now));
+    (left != Some(Duration::ZERO)).then_some(left)
 }

@@ -28,8 +28,8 @@ impl<E> Fault<E> {
             (End::MakeFailed, Fault::Make(error)) => Ok(Error::Make(error)),
             (End::ActivateFailed, Fault::Activate(error)) => Ok(Error::Activate(error)),
             (End::PassivateFailed, Fault::Passivate(error)) => Ok(Error::Passivate(error)),
-            (End::CreateTestFailed, Fault::Test(_)) => Ok(Error::CreateTest),
-            (End::BorrowTestFailed, Fault::Test(_)) => Ok(Error::BorrowTest),
+            (End::CreateTestFailed, Fault::Test(reason)) => Ok(Error::CreateTest(reason)),
+            (End::BorrowTestFailed, Fault::Test(reason)) => Ok(Error::BorrowTest(reason)),
             (_, fault) => Err(fault),
         }
     }
@@ -101,11 +101,13 @@ impl<M: Manager> Course<M> {
         self.kind == Kind::Evict && !self.tests_idle
     }
 
-    /// Returns whether an eviction run finds its object too old.
-    fn is_too_old(&self, pool: &Shared<M>) -> bool {
+    /// Returns whether an eviction run finds its object too old. It looks once, since its clock may be set back: one that is too old is not activated.
+    fn is_too_old(&mut self, pool: &Shared<M>) -> bool {
         let looks_at_age = self.kind == Kind::Evict && pool.policy.max_lifetime.is_some();
         match &self.value {
-            Value::Here(value) if looks_at_age => pool.is_too_old(value, pool.now().millis),
+            Value::Here(value) if looks_at_age => *self
+                .is_too_old
+                .get_or_insert_with(|| pool.is_too_old(value, pool.now().millis)),
             _ => false,
         }
     }

@@ -1,65 +1,39 @@
 //! Cuts of the journal, and the segments that are handed to a sink.
 
-use crate::call::Kind;
 use crate::failure::Failure;
 use crate::journal::copy_lines;
-use crate::locked_pool::LockedPool;
 use crate::manager::Manager;
-use crate::panics::unless_it_panics;
+use crate::outlet::Outlet;
 use crate::proved_core::{CallName, Core};
 use crate::room_waits::wake_all;
-use crate::segments::{Segment, SegmentSink, Segments, SinkFailure};
+use crate::segments::SinkFailure;
 use crate::settings::Setup;
 use crate::shared::{Held, Shared};
 use crate::sleepers::Wakes;
 use crate::step::StepFault;
 use crate::stored_journal::{CutSegment, Mode};
 use std::io::{self, Write};
-use std::sync::{Arc, Mutex, PoisonError};
+use std::sync::Arc;
 use std::thread;
-use std::time::{Duration, Instant};
 
 /// How often a cut copies the entries that came meanwhile, before it holds the lock for the rest.
 const ROUNDS: u32 = 4;
 
-/// The sink of a pool.
-pub(crate) struct Outlet {
-    sink: Mutex<Box<dyn SegmentSink>>,
-    on_failure: SinkFailure,
+/// A copy of a stored journal: its base, and its first entries.
+struct JournalCopy {
+    text: Vec<u8>,
+    base_size: usize,
+    entries: u64,
 }
 
-impl Outlet {
-    pub fn new(segments: Segments) -> Outlet {
-        Outlet {
-            sink: Mutex::new(segments.sink),
-            on_failure: segments.on_failure,
+impl JournalCopy {
+    fn of_base(text: Vec<u8>) -> JournalCopy {
+        JournalCopy {
+            base_size: text.len(),
+            text,
+            entries: 0,
         }
     }
-
-    /// Hands a segment to the sink.
-    fn store(&self, segment: &CutSegment) -> io::Result<()> {
-        let segment = Segment {
-            position: segment.position,
-            entries: segment.entries,
-            text: &segment.text,
-            settings: &segment.settings,
-        };
-        let mut sink = self.sink.lock().unwrap_or_else(PoisonError::into_inner);
-        unless_it_panics(|| sink.store(&segment))
-            .unwrap_or_else(|| Err(io::Error::other("the sink panicked")))
-    }
-}
-
-/// What there is for a call that found the journal full.
-pub(crate) enum Room {
-    /// The journal was cut, or has room.
-    Made,
-    /// Nobody writes a segment, so the call is to do so.
-    Lacks,
-    /// Another thread writes a segment.
-    Awaited,
-    /// None: the pool is closed or has no sink, or this thread writes the segment.
-    Refused,
 }
 
 /// The right to cut the journal, of one thread at a time, and the segment that is unwritten. This goes back to the journal in the end.
@@ -92,7 +66,7 @@ impl<M: Manager> Shared<M> {
     #[cold]
     fn give_room_wait_up(&self, number: u64, call: CallName) {
         let mut state = self.lock();
-        if state.journal.room_wakers.forget_ring(number) {
+        if state.journal.room_wakers.woken.forget(number) {
             let mut wakes = Wakes::default();
             wakes.push(state.core.give_up(call));
             self.leave_with_loan(state, wakes);
@@ -117,12 +91,11 @@ impl<M: Manager> Shared<M> {
     /// Copies and cuts the journal. The segment is kept as unwritten. If there is a change, the pool goes on with those settings. Returns the
     /// position after the last entry of the segment.
     pub fn cut_off(&self, turn: &mut Turn<'_, M>, change: Option<Setup>) -> Result<u64, StepFault> {
-        let mut text = self.base_text()?;
-        let mut copied = 0;
+        let mut copy = self.copy_of_base()?;
         for _ in 0..ROUNDS {
-            copied = self.copy_stored(copied, &mut text)?;
+            copy.entries = self.copy_stored(copy.entries, &mut copy.text)?;
         }
-        self.cut_in(turn, self.lock(), copied, text, change)
+        self.cut_in(turn, self.lock(), copy, change)
     }
 
     /// Writes and cuts the journal. The segment is kept as unwritten. Returns how many of its bytes are written: if that fails, nothing is
@@ -134,25 +107,25 @@ impl<M: Manager> Shared<M> {
             return Ok(0);
         }
         drop(state);
-        let mut text = self.base_text()?;
-        let (mut copied, mut written) = (0, 0);
+        let mut copy = self.copy_of_base()?;
+        let mut written = 0;
         for _ in 0..ROUNDS {
-            copied = self.copy_stored(copied, &mut text)?;
-            out.write_all(&text[written..])?;
-            written = text.len();
+            copy.entries = self.copy_stored(copy.entries, &mut copy.text)?;
+            out.write_all(&copy.text[written..])?;
+            written = copy.text.len();
         }
         out.flush()?;
-        self.cut_in(turn, self.lock(), copied, text, None)?;
+        self.cut_in(turn, self.lock(), copy, None)?;
         Ok(written)
     }
 
-    /// Returns the lines of the base, while no other thread may cut the journal.
-    fn base_text(&self) -> Result<Vec<u8>, StepFault> {
+    /// Copies the lines of the base, while no other thread may cut the journal.
+    fn copy_of_base(&self) -> Result<JournalCopy, StepFault> {
         let first = self.lock().first_stored();
         let mut text = Vec::new();
         let is_whole = self.copy_base(first, &mut text)?;
         debug_assert!(is_whole, "no other thread cuts the journal");
-        Ok(text)
+        Ok(JournalCopy::of_base(text))
     }
 
     /// Copies and cuts the journal in one critical section.
@@ -163,7 +136,7 @@ impl<M: Manager> Shared<M> {
     ) -> Result<u64, StepFault> {
         let mut text = Vec::new();
         copy_lines(&mut state.core, Core::base_line, 0, u64::MAX, &mut text)?;
-        self.cut_in(turn, state, 0, text, None)
+        self.cut_in(turn, state, JournalCopy::of_base(text), None)
     }
 
     /// Copies the entries that are not copied yet, and cuts the journal. A change of the settings leaves no segment without entries.
@@ -171,18 +144,26 @@ impl<M: Manager> Shared<M> {
         &self,
         turn: &mut Turn<'_, M>,
         mut state: Held<'_, M>,
-        copied: u64,
-        mut text: Vec<u8>,
+        copy: JournalCopy,
         change: Option<Setup>,
     ) -> Result<u64, StepFault> {
         let (position, entries) = (state.first_stored(), state.core.steps());
-        copy_lines(&mut state.core, Core::line, copied, entries, &mut text)?;
-        let settings = Arc::clone(&state.setup.text);
+        let (mut text, counts) = (copy.text, state.core.counts());
+        copy_lines(
+            &mut state.core,
+            Core::line,
+            copy.entries,
+            entries,
+            &mut text,
+        )?;
+        let limit = state.setup.settings.journal_limit.unsigned_abs();
         let segment = CutSegment {
             position,
             entries,
             text,
-            settings,
+            base_size: copy.base_size,
+            settings: Arc::clone(&state.setup.text),
+            most_before: state.journal.most_before(limit, entries, counts),
         };
         match change {
             Some(setup) => {
@@ -261,55 +242,8 @@ impl<M: Manager> Shared<M> {
         }
     }
 
-    /// Makes room in a journal that was full when its first stored entry had this position, or waits until then for the thread that does. Returns
-    /// whether the journal was cut or has room: then the step may be tried again, even if others have used the room up meanwhile.
-    #[cold]
-    pub fn make_room<'a>(
-        &'a self,
-        mut state: Held<'a, M>,
-        kind: Kind,
-        first: u64,
-        end: Option<Instant>,
-    ) -> bool {
-        loop {
-            match self.look_for_room(&mut state, kind, first) {
-                Room::Made => return true,
-                Room::Refused => return false,
-                Room::Lacks => return self.write_for_room(state, first),
-                Room::Awaited => {}
-            }
-            let left = end.map(|end| end.saturating_duration_since(Instant::now()));
-            if left == Some(Duration::ZERO) {
-                return false;
-            }
-            state = self.state.wait(state, &self.written, left);
-        }
-    }
-
-    /// Returns what there is for a call that found the journal full when its first stored entry had this position.
-    pub fn look_for_room(&self, state: &mut LockedPool<M::Object>, kind: Kind, first: u64) -> Room {
-        let is_closed = kind.needs_open_pool() && state.core.is_closed();
-        let is_made = state.first_stored() != first || state.has_room();
-        match state.journal.writer {
-            _ if is_closed || self.outlet.is_none() => Room::Refused,
-            _ if is_made => Room::Made,
-            None => Room::Lacks,
-            Some(_) if state.journal.is_written_by_this_thread() => Room::Refused,
-            Some(_) => Room::Awaited,
-        }
-    }
-
-    /// Writes a segment for a call that found the journal full. Returns whether the journal was cut or has room then.
-    pub fn write_for_room(&self, state: Held<'_, M>, first: u64) -> bool {
-        if let (Some(outlet), Some(turn)) = (&self.outlet, self.take_turn(state)) {
-            self.write_and_report(turn, outlet);
-        }
-        let mut state = self.lock();
-        state.first_stored() != first || state.has_room()
-    }
-
     /// Writes a segment, and reports that this failed once others may cut the journal.
-    fn write_and_report(&self, mut turn: Turn<'_, M>, outlet: &Outlet) {
+    pub fn write_and_report(&self, mut turn: Turn<'_, M>, outlet: &Outlet) {
         let written = self.write_out(&mut turn, outlet);
         drop(turn);
         if let Err(error) = written {
@@ -350,22 +284,10 @@ impl<M: Manager> Shared<M> {
         };
         let entries = segment.entries;
         let stored = outlet.store(segment);
+        self.lock().journal.has_failed = stored.is_err();
         if stored.is_ok() || outlet.on_failure == SinkFailure::Drop {
             turn.unwritten = None;
         }
         stored.map(|()| entries)
-    }
-
-    /// Returns whether little room is left in the journal.
-    pub fn is_low(&self) -> bool {
-        let mut state = self.lock();
-        match state.journal.mode() {
-            Mode::Off => false,
-            Mode::Memory | Mode::Segments => {
-                let settings = &state.setup.settings;
-                let low = (settings.journal_limit.unsigned_abs() / 4).max(settings.least_room());
-                state.core.room() < low
-            }
-        }
     }
 }

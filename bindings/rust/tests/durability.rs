@@ -1,4 +1,4 @@
-//! A folder of segments: the order in which it is synced and its files get their names, syncs that fail, two pools, a relative path, and a pool that
+//! A folder of segments: the order in which it is synced and its files get their names, syncs that fail, two pools, a relative path, and pools that
 //! cannot be opened.
 
 #![cfg(all(target_env = "gnu", target_arch = "x86_64"))]
@@ -6,30 +6,29 @@
 mod common;
 
 use common::managers::{pair, Numbers};
-use common::{assert_segments_legal, new_folder};
+use common::{assert_start_legal, files_in, in_folder_when_due, new_folder, start_in, starts_in};
 use std::cell::Cell;
 use std::ffi::{c_char, c_int, c_long, c_void, CStr};
 use std::path::{Path, PathBuf};
 use std::sync::{Barrier, Mutex};
 use std::time::Duration;
 use std::{env, fs, io, mem, thread};
-use zuphinka::{Journal, OpenError, Pool, Segments};
+use zuphinka::{Builder, Journal, LeakDetection, OpenError, Pool, Segments};
 
 /// What was synced, and which files got and lost a name.
 static EVENTS: Mutex<Vec<String>> = Mutex::new(Vec::new());
 
-/// What cannot be synced: a folder, or all files of a folder, as `FOLDER/*`.
+/// What cannot be synced: a folder, or all that is below one, as `FOLDER/*`.
 static FAILING: Mutex<Vec<PathBuf>> = Mutex::new(Vec::new());
 
 thread_local! {
-    /// Whether this thread can start no other one.
-    static STARTS_NONE: Cell<bool> = const { Cell::new(false) };
+    /// How many threads this one can still start, if that is limited.
+    static STARTS: Cell<Option<u32>> = const { Cell::new(None) };
 }
 
 const FSYNC: c_long = 74;
+const FDATASYNC: c_long = 75;
 const RENAME: c_long = 82;
-const UNLINK: c_long = 87;
-const LINKAT: c_long = 265;
 
 /// The library after this program that has a function.
 const NEXT: *mut c_void = usize::MAX as *mut c_void;
@@ -47,12 +46,17 @@ fn note(event: String) {
 }
 
 fn is_failing(path: &Path) -> bool {
-    let of_folder = path.with_file_name("*");
     let failing = FAILING.lock().unwrap();
-    failing.contains(&path.to_owned()) || failing.contains(&of_folder)
+    failing.iter().any(|failing| match failing.ends_with("*") {
+        true => path
+            .ancestors()
+            .skip(1)
+            .any(|above| above.join("*") == *failing),
+        false => path == failing,
+    })
 }
 
-/// Does something while a folder, or its files, cannot be synced.
+/// Does something while a folder, or what is below it, cannot be synced.
 fn while_failing<R>(path: PathBuf, act: impl FnOnce() -> R) -> R {
     FAILING.lock().unwrap().push(path.clone());
     let done = act();
@@ -66,42 +70,30 @@ fn note_name(event: &str, name: *const c_char) {
     note(format!("{event} {}", name.to_string_lossy()));
 }
 
+/// Syncs a file as a function of the C library does, and notes that.
+fn sync(event: &str, function: c_long, file: c_int) -> c_int {
+    let path = fs::read_link(format!("/proc/self/fd/{file}")).unwrap();
+    note(format!("{event} {}", path.display()));
+    let file = if is_failing(&path) { -1 } else { file };
+    // SAFETY: both functions take a file, and return an error if it is none.
+    unsafe { syscall(function, file) as c_int }
+}
+
 // SAFETY: these take the place of the C library's functions in this program, and do what those do.
 #[no_mangle]
 unsafe extern "C" fn fsync(file: c_int) -> c_int {
-    let path = fs::read_link(format!("/proc/self/fd/{file}")).unwrap();
-    note(format!("sync {}", path.display()));
-    match is_failing(&path) {
-        true => syscall(FSYNC, -1) as c_int,
-        false => syscall(FSYNC, file) as c_int,
-    }
+    sync("sync", FSYNC, file)
+}
+
+#[no_mangle]
+unsafe extern "C" fn fdatasync(file: c_int) -> c_int {
+    sync("sync data", FDATASYNC, file)
 }
 
 #[no_mangle]
 unsafe extern "C" fn rename(from: *const c_char, to: *const c_char) -> c_int {
     note_name("rename", to);
     syscall(RENAME, from, to) as c_int
-}
-
-#[no_mangle]
-unsafe extern "C" fn linkat(
-    old: c_int,
-    from: *const c_char,
-    new: c_int,
-    to: *const c_char,
-    flags: c_int,
-) -> c_int {
-    note_name("link", to);
-    syscall(LINKAT, old, from, new, to, flags) as c_int
-}
-
-#[no_mangle]
-unsafe extern "C" fn unlink(name: *const c_char) -> c_int {
-    let done = syscall(UNLINK, name) as c_int;
-    if done == 0 {
-        note_name("remove", name);
-    }
-    done
 }
 
 /// A function of the C library that starts a thread.
@@ -114,15 +106,16 @@ unsafe extern "C" fn pthread_create(
     start: *mut c_void,
     argument: *mut c_void,
 ) -> c_int {
-    if STARTS_NONE.get() {
-        return EAGAIN;
+    match STARTS.get() {
+        Some(0) => return EAGAIN,
+        left => STARTS.set(left.map(|left| left - 1)),
     }
     let create = dlsym(NEXT, b"pthread_create\0".as_ptr().cast());
     let create: Create = mem::transmute(create);
     create(thread, attributes, start, argument)
 }
 
-/// The events since this was asked last, of paths in a folder. The numbers of unfinished files are left out.
+/// The events since this was asked last, of paths in a folder. That of a start is called so.
 fn events_in(folder: &Path) -> Vec<String> {
     let folder = format!("{}", folder.display());
     let mut events = EVENTS.lock().unwrap();
@@ -130,16 +123,19 @@ fn events_in(folder: &Path) -> Vec<String> {
     *events = others;
     own.iter()
         .map(|event| event.replace(&folder, "top"))
-        .map(|event| match event.split_once(".unfinished-") {
-            Some((before, number)) if number.len() == 16 => before.to_owned() + ".unfinished",
-            _ => event,
+        .map(|event| match event.split_once("/20") {
+            Some((before, start)) => match start.split_once('/') {
+                Some((_, file)) => format!("{before}/start/{file}"),
+                None => before.to_owned() + "/start",
+            },
+            None => event,
         })
         .collect()
 }
 
 /// A pool of some objects whose segments are stored in a folder.
 fn pool_of(objects: u32, folder: &Path) -> Pool<Numbers<true>> {
-    let segments = Segments::in_folder(folder).unwrap();
+    let segments = in_folder_when_due(folder);
     let builder = Pool::builder().journal(Journal::Segments(segments));
     builder.max_total(objects).build(Numbers).unwrap()
 }
@@ -159,22 +155,24 @@ fn a_file_is_synced_before_it_has_its_name_and_its_folder_afterwards() {
     );
     pair(&pool);
     assert_eq!(pool.flush_journal().unwrap(), 4);
-    let stored = |naming: &[&str]| {
-        let mut events = vec!["sync top/a/b/journal/.unfinished".to_owned()];
-        let naming = naming
-            .iter()
-            .map(|event| event.replace("at ", "top/a/b/journal/"));
-        events.extend(naming);
-        events.push("sync top/a/b/journal".to_owned());
-        events
+    let stored = |name: &str| {
+        let start = "top/a/b/journal/start";
+        let named = format!("rename {start}/{name}");
+        [
+            format!("sync {start}/.unfinished"),
+            named,
+            format!("sync {start}"),
+        ]
     };
-    let settings = stored(&["link at settings.toml", "remove at .unfinished"]);
-    let segment = stored(&["rename at segment-00000000000000000000"]);
-    assert_eq!(events_in(&folder), [settings, segment].concat());
+    let first = "segment-00000000000000000000";
+    let names = ["start.toml", "settings.toml", first, "callers.txt"];
+    let mut events = vec!["sync top/a/b/journal".to_owned()];
+    events.extend(names.into_iter().flat_map(stored));
+    assert_eq!(events_in(&folder), events);
     pair(&pool);
     assert_eq!(pool.flush_journal().unwrap(), 4);
-    let segment = stored(&["rename at segment-00000000000000000004"]);
-    assert_eq!(events_in(&folder), segment);
+    let appended = format!("sync data top/a/b/journal/start/{first}");
+    assert_eq!(events_in(&folder), [appended]);
     drop(pool);
     fs::remove_dir_all(folder).unwrap();
 }
@@ -194,67 +192,80 @@ fn nothing_is_asked_of_what_is_above_a_folder_that_exists() {
 }
 
 #[test]
-fn a_first_store_that_fails_takes_no_folder() {
-    let folder = fs::canonicalize(new_folder()).unwrap();
-    let (first, second) = (pool_in(&folder), pool_in(&folder));
-    pair(&first);
-    let failed = while_failing(folder.join("*"), || first.flush_journal());
-    assert_ne!(failed.unwrap_err().kind(), io::ErrorKind::AlreadyExists);
-    (0..2).for_each(|_| pair(&second));
-    assert_eq!(second.flush_journal().unwrap(), 8);
-    let segment = folder.join("segment-00000000000000000000");
-    let stored = fs::read(&segment).unwrap();
-    for _ in 0..2 {
-        let refused = first.flush_journal().unwrap_err();
-        assert_eq!(refused.kind(), io::ErrorKind::AlreadyExists);
-        assert_eq!(fs::read(&segment).unwrap(), stored);
-    }
-    pair(&second);
-    assert_eq!(second.flush_journal().unwrap(), 4);
-    drop((first, second));
-    fs::remove_dir_all(folder).unwrap();
-}
-
-#[test]
-fn a_folder_that_could_not_be_synced_is_still_its_pools() {
+fn a_store_that_fails_leaves_whole_files_and_is_made_again() {
     let folder = fs::canonicalize(new_folder()).unwrap();
     let pool = pool_in(&folder);
-    pair(&pool);
-    let failed = while_failing(folder.clone(), || pool.flush_journal());
-    assert_ne!(failed.unwrap_err().kind(), io::ErrorKind::AlreadyExists);
-    assert_eq!(pool.flush_journal().unwrap(), 4);
+    let fails = || {
+        pair(&pool);
+        assert!(while_failing(folder.join("*"), || pool.flush_journal()).is_err());
+    };
+    fails();
+    pool.flush_journal().unwrap();
+    let start = start_in(&folder);
+    assert_start_legal(&start, 4);
+    let [segment, callers] = ["segment-00000000000000000000", "callers.txt"];
+    let read = |name| fs::read(start.join(name)).unwrap();
+    let before = [segment, callers].map(read);
+    let named = thread::Builder::new().name("another".to_owned());
+    thread::scope(|scope| {
+        named.spawn_scoped(scope, fails).unwrap().join().unwrap();
+    });
+    assert_eq!([segment, callers].map(read), before);
+    pool.flush_journal().unwrap();
+    assert_start_legal(&start, 8);
+    let names = String::from_utf8(read(callers)).unwrap();
+    assert_eq!(
+        names
+            .lines()
+            .filter(|line| line.ends_with(" another"))
+            .count(),
+        1
+    );
     drop(pool);
     fs::remove_dir_all(folder).unwrap();
 }
 
 #[test]
-fn one_of_two_pools_that_store_at_once_gets_the_folder() {
-    for round in 0..50 {
-        let folder = fs::canonicalize(new_folder()).unwrap();
-        let pools = [pool_of(1, &folder), pool_of(2, &folder)];
-        pair(&pools[0]);
-        (0..2).for_each(|_| pair(&pools[1]));
-        let both = Barrier::new(2);
-        let store = |pool: &Pool<_>| {
-            both.wait();
-            pool.flush_journal().map_err(|error| error.kind())
-        };
-        let [first, second] = thread::scope(|scope| {
-            let storing = [&pools[0], &pools[1]].map(|pool| scope.spawn(|| store(pool)));
-            storing.map(|storing| storing.join().unwrap())
-        });
-        let refused = Err(io::ErrorKind::AlreadyExists);
-        let winner = match (first, second) {
-            (Ok(4), second) if second == refused => &pools[0],
-            (first, Ok(8)) if first == refused => &pools[1],
-            both => panic!("round {round}: {both:?}"),
-        };
-        let stored = |name| fs::read_to_string(folder.join(name)).unwrap();
-        assert_eq!(stored("settings.toml"), winner.settings());
-        assert_segments_legal(winner, &[stored("segment-00000000000000000000")]);
-        drop(pools);
-        fs::remove_dir_all(folder).unwrap();
+fn a_folder_whose_name_could_not_be_stored_is_made_again() {
+    let folder = fs::canonicalize(new_folder()).unwrap();
+    let pool = pool_in(&folder);
+    pair(&pool);
+    assert!(while_failing(folder.clone(), || pool.flush_journal()).is_err());
+    assert_eq!(pool.flush_journal().unwrap(), 4);
+    assert_start_legal(&start_in(&folder), 4);
+    drop(pool);
+    fs::remove_dir_all(folder).unwrap();
+}
+
+#[test]
+fn pools_that_store_at_once_have_a_folder_each() {
+    const POOLS: u32 = 8;
+    let folder = fs::canonicalize(new_folder()).unwrap();
+    let all = Barrier::new(POOLS as usize);
+    thread::scope(|scope| {
+        for objects in 1..=POOLS {
+            let (folder, all) = (&folder, &all);
+            scope.spawn(move || {
+                all.wait();
+                let pool = pool_of(objects, folder);
+                (0..objects).for_each(|_| pair(&pool));
+                let entries = 4 * u64::from(objects);
+                assert_eq!(pool.flush_journal().unwrap(), entries);
+            });
+        }
+    });
+    let mut found = Vec::new();
+    for start in starts_in(&folder) {
+        let settings = fs::read_to_string(start.join("settings.toml")).unwrap();
+        let objects = (1..=POOLS).find(|most| settings.contains(&format!("maxTotal = {most}\n")));
+        let objects = objects.unwrap();
+        // The pool was closed, and its object destroyed.
+        assert_start_legal(&start, 4 * u64::from(objects) + 3);
+        found.push(objects);
     }
+    found.sort_unstable();
+    assert_eq!(found, Vec::from_iter(1..=POOLS));
+    fs::remove_dir_all(folder).unwrap();
 }
 
 #[test]
@@ -272,26 +283,32 @@ fn a_relative_folder_is_the_same_after_the_current_one_changes() {
     env::set_current_dir(before).unwrap();
     assert_eq!(flushed.unwrap(), 4);
     drop(pool);
-    let stored = fs::read_dir(folder.join("a/journal")).unwrap();
-    assert_eq!(stored.count(), 3);
+    assert_start_legal(&start_in(&folder.join("a/journal")), 7);
     fs::remove_dir_all(folder).unwrap();
     // Nothing is in it.
     fs::remove_dir(other).unwrap();
 }
 
 #[test]
-fn a_pool_that_gets_no_thread_takes_no_folder() {
+fn a_pool_that_gets_no_thread_stores_nothing() {
     let folder = fs::canonicalize(new_folder()).unwrap();
-    let segments = Segments::in_folder(&folder).unwrap();
-    let builder = Pool::builder().journal(Journal::Segments(segments));
-    let builder = builder.maintain_every(Duration::from_secs(3_600));
-    STARTS_NONE.set(true);
-    let refused = builder.build(Numbers::<true>).unwrap_err();
-    STARTS_NONE.set(false);
-    assert_eq!(refused, OpenError::Thread(io::ErrorKind::WouldBlock));
-    let pool = pool_in(&folder);
-    pair(&pool);
-    assert_eq!(pool.flush_journal().unwrap(), 4);
-    drop(pool);
+    let hour = Duration::from_secs(3_600);
+    let of_journal =
+        || Pool::builder().journal(Journal::Segments(Segments::in_folder(&folder).unwrap()));
+    let alone = Pool::builder().journal(Journal::Segments(in_folder_when_due(&folder)));
+    let leaks = LeakDetection::new(hour, drop);
+    let builders: [(Builder<Numbers<true>>, u32); 4] = [
+        (of_journal(), 0),
+        (of_journal().maintain_every(hour), 1),
+        (alone.maintain_every(hour), 0),
+        (Pool::builder().leak_detection(leaks), 0),
+    ];
+    for (builder, starts) in builders {
+        STARTS.set(Some(starts));
+        let refused = builder.build(Numbers::<true>).unwrap_err();
+        STARTS.set(None);
+        assert_eq!(refused, OpenError::Thread(io::ErrorKind::WouldBlock));
+        assert!(files_in(&folder).is_empty());
+    }
     fs::remove_dir_all(folder).unwrap();
 }

@@ -7,7 +7,9 @@ mod hooks;
 
 use common::managers::{kept, take_out};
 use common::tasks::block_on;
-use common::{assert_legal, panic_quietly, panics, times_of, wait_for_waits, MemorySink, Stored};
+use common::{
+    assert_legal, panic_quietly, panics, times_of, wait_for_waits, when_due, MemorySink, Stored,
+};
 use std::convert::Infallible;
 use std::panic;
 use std::sync::atomic::{AtomicBool, AtomicU64, Ordering};
@@ -16,7 +18,7 @@ use std::thread;
 use std::time::Duration;
 use zuphinka::{
     Abandoned, Addition, Builder, Contradiction, Error, Journal, Manager, OpenError, Pool, Pooled,
-    Returned, Segments, WeakPool,
+    Returned, WeakPool,
 };
 
 with_and_without_hooks! {
@@ -242,7 +244,7 @@ fn a_clock_that_panics_stands_still<const HOOKS: bool>() {
     is_broken.store(true, Ordering::SeqCst);
     let held = pool.get().unwrap();
     let short = Duration::from_millis(1);
-    assert!(matches!(pool.get_timeout(short), Err(Error::TimedOut)));
+    assert!(matches!(pool.get_timeout(short), Err(Error::TimedOut(_))));
     drop(held);
     pool.evict().unwrap();
     pool.close();
@@ -321,7 +323,7 @@ fn a_closed_pool_whose_sink_fails_is_closed_though_borrows_reclaim<const HOOKS: 
         },
     };
     let limited = |builder: Builder<Troubled<HOOKS>>| {
-        let segments = Segments::new(sink).limit(20);
+        let segments = when_due(sink).limit(20);
         let builder = builder.journal(Journal::Segments(segments)).max_total(1);
         builder.abandoned(ON_BORROW)
     };
@@ -398,10 +400,10 @@ fn a_borrow_that_makes_its_object_gets_it_from_a_closed_pool<const HOOKS: bool>(
     struct Slow<const HOOKS: bool>(Mutex<(mpsc::Sender<()>, mpsc::Receiver<()>)>);
     impl<const HOOKS: bool> Manager for Slow<HOOKS> {
         type Object = u64;
-        type Error = ();
+        type Error = Infallible;
         const ACTIVATES: bool = HOOKS;
         const PASSIVATES: bool = HOOKS;
-        fn make(&self, id: u64) -> Result<u64, ()> {
+        fn make(&self, id: u64) -> Result<u64, Infallible> {
             let both = self.0.lock().unwrap();
             both.0.send(()).unwrap();
             both.1.recv().unwrap();

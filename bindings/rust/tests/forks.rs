@@ -4,8 +4,7 @@
 mod common;
 
 use common::managers::{pair, Numbers};
-use common::{entries_of, new_folder};
-use std::collections::hash_map::RandomState;
+use common::{assert_start_legal, entries_of, new_folder, segments_in, start_in, starts_in};
 use std::convert::Infallible;
 use std::ffi::c_int;
 use std::fs;
@@ -19,6 +18,7 @@ extern "C" {
     fn fork() -> c_int;
     fn waitpid(process: c_int, status: *mut c_int, options: c_int) -> c_int;
     fn kill(process: c_int, signal: c_int) -> c_int;
+    fn exit(status: c_int) -> !;
     fn _exit(status: c_int) -> !;
 }
 
@@ -99,7 +99,9 @@ impl Manager for Noting {
 
 /// A pool with an idle object, which stores its journal and notes its destructions below a folder.
 fn pool_in(folder: &Path, change: impl FnOnce(Builder<Noting>) -> Builder<Noting>) -> Pool<Noting> {
+    // It has a thread that stores it, in an hour.
     let segments = Segments::in_folder(folder.join("journal")).unwrap();
+    let segments = segments.store_every(Duration::from_secs(3_600));
     let [manager, clock, receiver] = PARTS.map(|part| Noted(folder.join(part)));
     let start = Instant::now();
     let builder = Pool::builder().clock(move || {
@@ -155,17 +157,50 @@ fn drop_in_both(change: impl FnOnce(Builder<Noting>) -> Builder<Noting>) {
     drop(pool);
     assert!(folder.join("destroyed 0").exists());
     assert!(PARTS.iter().all(|part| folder.join(part).exists()));
-    let first = format!("journal/segment-{:020}", 0);
-    let journal = fs::read_to_string(folder.join(first)).unwrap();
-    let verdict = common::judge(&settings, journal.as_bytes());
-    assert_eq!(verdict, format!("legal {}\n", entries_of(&journal).count()));
-    assert!(journal.contains(" close = "));
+    let start = start_in(&folder.join("journal"));
+    let segments = segments_in(&start);
+    let entries = segments.iter().flat_map(|text| entries_of(text));
+    assert_start_legal(&start, entries.count() as u64);
+    assert!(segments.concat().contains(" close = "));
+    assert!(fs::read_to_string(start.join("settings.toml")).unwrap() == settings);
     fs::remove_dir_all(folder).unwrap();
 }
 
 #[test]
 fn a_child_drops_a_pool_and_does_nothing_to_it() {
     drop_in_both(|builder| builder);
+}
+
+#[test]
+fn a_child_that_exits_stores_nothing_of_its_parents() {
+    let folder = new_folder();
+    let pool = pool_in(&folder, |builder| builder);
+    let before = names_in(&folder);
+    // SAFETY: what runs at the end of the child touches nothing of the parent's but its output.
+    let child = forked(|| unsafe { exit(0) });
+    assert_eq!(status_of(child), 0);
+    assert_eq!(names_in(&folder), before);
+    assert_eq!(pool.flush_journal().unwrap(), 4);
+    assert_start_legal(&start_in(&folder.join("journal")), 4);
+    drop(pool);
+    fs::remove_dir_all(folder).unwrap();
+}
+
+#[test]
+fn a_child_that_exits_stores_the_journal_of_its_own_pool() {
+    let folder = new_folder();
+    let pool = pool_in(&folder, |builder| builder);
+    let child = forked(|| {
+        let own = pool_in(&folder.join("child"), |builder| builder);
+        std::mem::forget(own.get().unwrap());
+        // SAFETY: as above.
+        unsafe { exit(0) }
+    });
+    assert_eq!(status_of(child), 0);
+    assert_start_legal(&start_in(&folder.join("child/journal")), 6);
+    assert!(starts_in(&folder.join("journal")).is_empty());
+    drop(pool);
+    fs::remove_dir_all(folder).unwrap();
 }
 
 #[test]
@@ -188,18 +223,19 @@ fn stores_at(folder: &Path, start: SystemTime) -> bool {
 }
 
 #[test]
-fn one_of_two_children_that_store_at_once_gets_the_folder() {
+fn children_that_store_at_once_have_a_folder_each() {
     const STORED: c_int = 2;
-    // As a map of the parent's has.
-    let _ = RandomState::new();
-    for round in 0..50 {
+    for round in 0..10 {
         let folder = new_folder();
         let start = UNIX_EPOCH + UNIX_EPOCH.elapsed().unwrap() + Duration::from_millis(8);
         let stores = || c_int::from(stores_at(&folder, start)) * STORED;
         let children = [forked(stores), forked(stores)];
-        let mut ends = children.map(status_of);
-        ends.sort_unstable();
-        assert_eq!(ends, [0, STORED], "round {round}");
+        assert_eq!(children.map(status_of), [STORED; 2], "round {round}");
+        let starts = starts_in(&folder);
+        assert_eq!(starts.len(), 2);
+        starts
+            .iter()
+            .for_each(|start| assert_start_legal(start, 11));
         fs::remove_dir_all(folder).unwrap();
     }
 }

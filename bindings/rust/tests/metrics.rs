@@ -59,7 +59,7 @@ fn the_text_tells_of_a_short_life<const HOOKS: bool>() {
     let second = ready(poll(&mut waiting, &bell)).unwrap();
     clock.set(3_040);
     let timed_out = pool.get_timeout(Duration::ZERO);
-    assert!(matches!(timed_out, Err(Error::TimedOut)));
+    assert!(matches!(timed_out, Err(Error::TimedOut(_))));
     assert_eq!(Pooled::invalidate(second), Returned::Destroyed);
     let third = pool.get().unwrap();
     clock.set(3_045);
@@ -70,7 +70,7 @@ fn the_text_tells_of_a_short_life<const HOOKS: bool>() {
     clock.set(8_045);
     assert!(matches!(
         ready(poll(&mut late, &bell)),
-        Err(Error::TimedOut)
+        Err(Error::TimedOut(_))
     ));
     let wanted = "# TYPE zuphinka_idle_objects gauge
 # UNIT zuphinka_idle_objects objects
@@ -153,7 +153,7 @@ fn a_borrow_that_is_not_to_wait_does_not_time_out<const HOOKS: bool>() {
     assert!(matches!(pool.try_get(), Err(Error::Exhausted)));
     let text = pool.metrics("n").to_string();
     assert_eq!(number(&text, "zuphinka_timeouts_total"), 0);
-    assert!(matches!(pool.get(), Err(Error::TimedOut)));
+    assert!(matches!(pool.get(), Err(Error::TimedOut(_))));
     let text = pool.metrics("n").to_string();
     assert_eq!(number(&text, "zuphinka_timeouts_total"), 1);
 }

@@ -21,6 +21,8 @@ with_and_without_hooks! {
     a_waiter_that_was_woken_for_nothing_is_not_overtaken_again
     an_overtake_counts_against_each_waiter
     a_waiter_that_is_gone_holds_nobody_up
+    a_task_that_is_not_polled_holds_no_thread_up
+    a_task_that_is_not_polled_loses_its_turn
     a_borrow_takes_what_is_left_beyond_the_waiters
     a_borrow_times_out_behind_a_waiter
     a_close_ends_waits_behind_a_waiter
@@ -80,7 +82,7 @@ fn a_waiter_is_overtaken_64_times_at_most<const HOOKS: bool>() {
     let (steps, counts) = (steps_of(&pool).len(), pool.counts());
     assert!(matches!(pool.try_get(), Err(Error::Exhausted)));
     let soon = Duration::from_millis(1);
-    assert!(matches!(pool.get_timeout(soon), Err(Error::TimedOut)));
+    assert!(matches!(pool.get_timeout(soon), Err(Error::TimedOut(_))));
     // Who may not overtake makes no entry.
     assert_eq!((steps_of(&pool).len(), pool.counts()), (steps, counts));
     drop(lent(&mut get, &bell));
@@ -151,6 +153,58 @@ fn a_waiter_that_is_gone_holds_nobody_up<const HOOKS: bool>() {
     assert_legal(&pool);
 }
 
+/// After this time a task that is not polled has lost its wake.
+const UNHEEDED: Duration = Duration::from_millis(1_001);
+
+fn a_task_that_is_not_polled_holds_no_thread_up<const HOOKS: bool>() {
+    let pool = pool::<HOOKS>(1, |builder| builder.max_overtakes(0));
+    let (held, bell) = (pool.get().unwrap(), Bell::new());
+    let mut get = waiting(&pool, &bell);
+    thread::scope(|scope| {
+        // It waits for the task, which is woken only then.
+        let behind = scope.spawn(|| pool.get().map(drop));
+        while pool.waiting() < 2 {
+            thread::yield_now();
+        }
+        drop(held);
+        assert_eq!(bell.rings(), 1);
+        assert_eq!(behind.join().unwrap(), Ok(()));
+    });
+    // It begins again.
+    assert!(ready(poll(&mut get, &bell)).is_ok());
+    assert_legal(&pool);
+}
+
+fn a_task_that_is_not_polled_loses_its_turn<const HOOKS: bool>() {
+    type Call<const HOOKS: bool> = fn(&Numbered<HOOKS>, &mut Option<Get<Numbers<HOOKS>>>);
+    let calls: [Call<HOOKS>; 4] = [
+        |pool, _| assert!(pool.maintain().is_ok()),
+        |pool, _| assert_eq!(pool.try_get().err(), Some(Error::Exhausted)),
+        |_, third| assert!(poll(third.as_mut().unwrap(), &Bell::new()).is_pending()),
+        |_, third| *third = None,
+    ];
+    let pool = pool::<HOOKS>(1, |builder| builder.max_overtakes(0));
+    for call in calls {
+        let bells = [(); 3].map(|()| Bell::new());
+        let held = pool.get().unwrap();
+        let [mut first, mut second, third] = [0, 1, 2].map(|one| waiting(&pool, &bells[one]));
+        let mut third = Some(third);
+        drop(held);
+        let rings: Vec<_> = bells.iter().map(|bell| bell.rings()).collect();
+        assert_eq!(rings, [1, 0, 0]);
+        thread::sleep(UNHEEDED);
+        call(&pool, &mut third);
+        let held = lent(&mut second, &bells[1]);
+        // It begins again.
+        assert!(poll(&mut first, &bells[0]).is_pending());
+        drop(third.take());
+        drop(held);
+        drop(lent(&mut first, &bells[0]));
+    }
+    assert!(pool.try_get().is_ok());
+    assert_legal(&pool);
+}
+
 fn a_borrow_takes_what_is_left_beyond_the_waiters<const HOOKS: bool>() {
     let pool = pool::<HOOKS>(2, |builder| builder.fair(true));
     let bell = Bell::new();
@@ -179,7 +233,7 @@ fn a_borrow_times_out_behind_a_waiter<const HOOKS: bool>() {
     clock.set(20);
     assert!(matches!(
         poll(&mut second, &bells[1]),
-        Poll::Ready(Err(Error::TimedOut))
+        Poll::Ready(Err(Error::TimedOut(_)))
     ));
     assert_eq!(steps_of(&pool).len(), steps);
     drop(lent(&mut first, &bells[0]));

@@ -61,7 +61,6 @@ with_and_without_hooks! {
     a_drain_goes_on_behind_a_cut
     segments_of_four_threads_are_one_journal
     what_is_written_while_others_cut_is_whole
-    settings_out_of_range_open_nothing
     errors_say_what_happened
 }
 
@@ -161,7 +160,7 @@ fn a_clock_that_goes_back_ends_no_wait<const HOOKS: bool>() {
     clock.set(500);
     // The clock stands still, so only the limit of the call ends its wait.
     let short = Duration::from_millis(5);
-    assert!(matches!(pool.get_timeout(short), Err(Error::TimedOut)));
+    assert!(matches!(pool.get_timeout(short), Err(Error::TimedOut(_))));
     assert_eq!(steps_of(&pool)[2..], ["borrow 1000 = wait"]);
     drop(widget);
     assert_legal(&pool);
@@ -231,12 +230,15 @@ fn an_exhausted_pool_refuses<const HOOKS: bool>() {
     let (pool, ..) = pool_with::<HOOKS>(|builder| builder.max_total(1));
     let _held = pool.get().unwrap();
     assert_eq!(pool.try_get().unwrap_err(), Error::Exhausted);
-    assert_eq!(
+    assert!(matches!(
         pool.get_timeout(Duration::ZERO).unwrap_err(),
-        Error::TimedOut
-    );
+        Error::TimedOut(_)
+    ));
     let (start, short) = (Instant::now(), Duration::from_millis(30));
-    assert_eq!(pool.get_timeout(short).unwrap_err(), Error::TimedOut);
+    assert!(matches!(
+        pool.get_timeout(short).unwrap_err(),
+        Error::TimedOut(_)
+    ));
     assert!(start.elapsed() >= short);
     assert_legal(&pool);
 
@@ -250,7 +252,7 @@ fn an_exhausted_pool_refuses<const HOOKS: bool>() {
 
     let (pool, ..) = pool_with::<HOOKS>(|builder| builder.max_total(1).max_wait(Duration::ZERO));
     let _held = pool.get().unwrap();
-    assert_eq!(pool.get().unwrap_err(), Error::TimedOut);
+    assert!(matches!(pool.get().unwrap_err(), Error::TimedOut(_)));
     assert_eq!(pool.try_get().unwrap_err(), Error::Exhausted);
 }
 
@@ -260,22 +262,15 @@ fn a_wait_is_as_long_as_the_settings_say<const HOOKS: bool>() {
     let pool = kept().max_total(1).max_wait(short).build(maker).unwrap();
     let _held = pool.get().unwrap();
     let start = Instant::now();
-    assert_eq!(pool.get().unwrap_err(), Error::TimedOut);
+    assert!(matches!(pool.get().unwrap_err(), Error::TimedOut(_)));
     // Moments are whole milliseconds.
     assert!(start.elapsed() >= short - Duration::from_millis(1));
-    assert_eq!(
-        pool.get_timeout(Duration::from_secs(60)).unwrap_err(),
-        Error::TimedOut
-    );
     let journal = journal_of(&pool);
     let answers: Vec<_> = journal
         .lines()
         .map(|line| line.rsplit(" = ").next().unwrap())
         .collect();
-    assert_eq!(
-        answers,
-        ["make 0", "lent", "wait", "timeout", "wait", "timeout"]
-    );
+    assert_eq!(answers, ["make 0", "lent", "wait", "timeout"]);
     assert_legal(&pool);
 }
 
@@ -291,7 +286,7 @@ fn no_wait_of_a_task_ends_before_its_time<const HOOKS: bool>() {
         while polled.is_pending() {
             polled = poll(&mut get, &bell);
         }
-        assert_eq!(ready(polled).unwrap_err(), Error::TimedOut);
+        assert!(matches!(ready(polled).unwrap_err(), Error::TimedOut(_)));
         start.elapsed()
     });
     let shortest = waits.min().unwrap();
@@ -309,7 +304,10 @@ fn a_wait_at_the_end_of_the_clock_is_a_sleep<const HOOKS: bool>() {
     let pool = builder.build(Numbers::<HOOKS>).unwrap();
     let _held = pool.get().unwrap();
     let short = Duration::from_millis(50);
-    assert_eq!(pool.get_timeout(short).unwrap_err(), Error::TimedOut);
+    assert!(matches!(
+        pool.get_timeout(short).unwrap_err(),
+        Error::TimedOut(_)
+    ));
     let reads = reads.load(Ordering::SeqCst);
     assert!(reads < 20, "{reads} reads");
 }
@@ -388,11 +386,11 @@ fn a_new_object_that_fails_is_destroyed<const HOOKS: bool>() {
     maker.fail("make");
     assert_eq!(pool.get().unwrap_err(), Error::Make(Broken("make")));
     maker.fail("validate");
-    assert_eq!(pool.get().unwrap_err(), Error::CreateTest);
+    assert_eq!(pool.get().unwrap_err(), Error::CreateTest(None));
     maker.fail("make");
     assert_eq!(pool.add().unwrap_err(), Error::Make(Broken("make")));
     maker.fail("validate");
-    assert_eq!(pool.add().unwrap_err(), Error::CreateTest);
+    assert_eq!(pool.add().unwrap_err(), Error::CreateTest(None));
     let wanted = [
         "make 0",
         "make 1",
@@ -446,7 +444,7 @@ fn a_new_object_whose_hook_fails_is_destroyed() {
 fn a_new_object_that_fails_its_second_test_is_destroyed<const HOOKS: bool>() {
     let (pool, maker, _) = pool_with::<HOOKS>(|builder| builder.test_on_borrow(true));
     maker.fail("validate");
-    assert_eq!(pool.get().unwrap_err(), Error::BorrowTest);
+    assert_eq!(pool.get().unwrap_err(), Error::BorrowTest(None));
     assert_eq!(
         maker.calls(),
         of_hooks::<HOOKS>(&["make 0", "activate 0", "validate 0", "destroy 0"])
@@ -1081,59 +1079,6 @@ fn what_is_written_while_others_cut_is_whole<const HOOKS: bool>() {
     let mut rest = entries.iter();
     let drained = String::from_utf8(drained).unwrap();
     assert!(drained.lines().all(|line| rest.any(|entry| *entry == line)));
-}
-
-fn settings_out_of_range_open_nothing<const HOOKS: bool>() {
-    let opened =
-        |builder: Builder<Maker<HOOKS>>| builder.build(Maker::<HOOKS>::default()).map(|_| ());
-    let refused = |key: &str| {
-        Err(OpenError::Settings(SettingsError::OutOfRange(
-            key.to_owned(),
-        )))
-    };
-    let long = Duration::from_millis((1 << 53) + 1);
-    assert_eq!(
-        opened(Pool::builder().journal_limit(0)),
-        refused("journalLimit")
-    );
-    assert_eq!(
-        opened(Pool::builder().journal_limit(u64::MAX)),
-        refused("journalLimit")
-    );
-    assert_eq!(
-        opened(Pool::builder().max_total(1 << 31)),
-        refused("maxTotal")
-    );
-    assert_eq!(
-        opened(Pool::builder().max_idle(u32::MAX)),
-        refused("maxIdle")
-    );
-    assert_eq!(
-        opened(Pool::builder().min_idle(1 << 31)),
-        refused("minIdle")
-    );
-    assert_eq!(
-        opened(Pool::builder().max_wait(long)),
-        refused("maxWaitMillis")
-    );
-    assert_eq!(
-        opened(Pool::builder().min_evictable_idle(Duration::MAX)),
-        refused("minEvictableIdleMillis")
-    );
-    let abandoned = Abandoned::new().timeout(long);
-    assert_eq!(
-        opened(Pool::builder().abandoned(abandoned)),
-        refused("abandoned.removeAbandonedTimeoutMillis")
-    );
-    assert_eq!(
-        opened(
-            Pool::builder()
-                .max_total(None)
-                .max_wait(None)
-                .max_idle(None)
-        ),
-        Ok(())
-    );
 }
 
 fn errors_say_what_happened<const HOOKS: bool>() {

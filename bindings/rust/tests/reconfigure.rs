@@ -7,7 +7,11 @@ mod hooks;
 
 use common::managers::{kept, pair, pool_with, Clock, Maker, Numbers};
 use common::tasks::{poll, ready, Bell, LONGEST};
-use common::{cut_off, entries_of, journal_of, judge_segments, new_folder};
+use common::{
+    assert_start_legal, cut_off, entries_of, in_folder_when_due, journal_of, judge_segments,
+    new_folder, start_in, when_due,
+};
+use std::convert::Infallible;
 use std::io::{self, Write};
 use std::path::Path;
 use std::sync::atomic::{AtomicBool, Ordering};
@@ -17,8 +21,8 @@ use std::time::Duration;
 use std::{error, fs, thread};
 use zuphinka::{
     Abandoned, Addition, Builder, Contradiction, Error, Failure, Journal, Manager, Pool, Pooled,
-    ReconfigureError, Returned, Segment, SegmentSink, Segments, SettingsError, SinkFailure,
-    Touched, WeakPool,
+    ReconfigureError, Returned, Segment, SegmentSink, SettingsError, SinkFailure, Touched,
+    WeakPool,
 };
 
 with_and_without_hooks! {
@@ -37,6 +41,7 @@ with_and_without_hooks! {
     segments_have_the_settings_of_their_entries
     segments_are_as_long_as_the_new_limit_says
     a_folder_has_each_settings_before_their_segments
+    settings_that_are_gone_are_stored_again
     a_segment_that_is_not_stored_keeps_its_settings
     a_segment_that_is_dropped_leaves_a_gap
     who_writes_a_segment_changes_nothing
@@ -83,7 +88,7 @@ fn more_places_serve_threads_that_wait<const HOOKS: bool>() {
 }
 
 fn more_places_serve_as_many_tasks<const HOOKS: bool>() {
-    let stored = Segments::new(Keeper::default());
+    let stored = when_due(Keeper::default());
     for journal in [
         Journal::Off,
         Journal::Memory(None),
@@ -263,7 +268,7 @@ fn a_wait_that_is_over_goes_on_by_the_new_limit<const HOOKS: bool>() {
             Poll::Pending => assert!(!is_over),
             Poll::Ready(lent) => {
                 assert!(is_over);
-                assert_eq!(lent.unwrap_err(), Error::TimedOut);
+                assert!(matches!(lent.unwrap_err(), Error::TimedOut(_)));
             }
         }
     }
@@ -435,10 +440,10 @@ fn stored<const HOOKS: bool>(
 ) -> (Pool<Numbers<HOOKS>>, Keeper, Arc<Mutex<Vec<String>>>) {
     let (keeper, reports) = (Keeper::default(), Arc::new(Mutex::new(Vec::new())));
     let received = Arc::clone(&reports);
-    let segments = Segments::new(keeper.clone()).on_failure(on_failure);
-    let builder = with(ONE)
-        .journal(Journal::Segments(segments))
-        .on_error(move |failure: Failure<()>| received.lock().unwrap().push(failure.to_string()));
+    let segments = when_due(keeper.clone()).on_failure(on_failure);
+    let builder = with(ONE).journal(Journal::Segments(segments)).on_error(
+        move |failure: Failure<Infallible>| received.lock().unwrap().push(failure.to_string()),
+    );
     (builder.build(Numbers).unwrap(), keeper, reports)
 }
 
@@ -488,7 +493,7 @@ fn files_in(folder: &Path) -> Vec<(String, String)> {
 fn a_folder_has_each_settings_before_their_segments<const HOOKS: bool>() {
     let folder = new_folder();
     let path = folder.join("journal");
-    let segments = Segments::in_folder(&path).unwrap();
+    let segments = in_folder_when_due(&path);
     let builder = with(ONE).journal(Journal::Segments(segments));
     let pool = builder.build(Numbers::<HOOKS>).unwrap();
     pair(&pool);
@@ -502,7 +507,8 @@ fn a_folder_has_each_settings_before_their_segments<const HOOKS: bool>() {
     change(&pool, ONE);
     drop(pool);
 
-    let files = files_in(&path);
+    let start = start_in(&path);
+    let files = files_in(&start);
     let segment = |position: u64| format!("segment-{position:020}");
     let settings = |position: u64| format!("settings-{position:020}.toml");
     let (one, two) = (settings_of(ONE), settings_of(TWO));
@@ -512,14 +518,36 @@ fn a_folder_has_each_settings_before_their_segments<const HOOKS: bool>() {
         ("settings.toml".to_owned(), one),
     ];
     let names: Vec<_> = files.iter().map(|file| file.0.clone()).collect();
-    assert_eq!(names[..4], [0, 4, 8, 12].map(segment));
-    assert_eq!(files[4..], stored);
-    fs::remove_file(path.join("settings.toml")).unwrap();
-    for name in &names[..4] {
-        fs::remove_file(path.join(name)).unwrap();
+    // The entries of the second flush are in the file of the first.
+    assert_eq!(names[1..4], [0, 4, 12].map(segment));
+    assert_eq!(files[4..7], stored);
+    assert_start_legal(&start, 15);
+    fs::remove_dir_all(folder).unwrap();
+}
+
+fn settings_that_are_gone_are_stored_again<const HOOKS: bool>() {
+    let folder = new_folder();
+    let segments = in_folder_when_due(&folder);
+    let builder = with(ONE).journal(Journal::Segments(segments));
+    let pool = builder.build(Numbers::<HOOKS>).unwrap();
+    pair(&pool);
+    assert_eq!(change(&pool, TWO), 4);
+    pair(&pool);
+    assert_eq!(pool.flush_journal().unwrap(), 4);
+    let start = start_in(&folder);
+    let changed = format!("settings-{:020}.toml", 4);
+    let names = ["settings.toml", &changed, "start.toml"];
+    let texts = names.map(|name| fs::read_to_string(start.join(name)).unwrap());
+    assert_eq!(texts[..2], [settings_of(ONE), settings_of(TWO)]);
+    // A program moves them to an archive.
+    for name in names {
+        fs::remove_file(start.join(name)).unwrap();
     }
-    let taken = Segments::in_folder(&path).unwrap_err();
-    assert_eq!(taken.kind(), io::ErrorKind::AlreadyExists);
+    pair(&pool);
+    drop(pool);
+    let again = names.map(|name| fs::read_to_string(start.join(name)).unwrap());
+    assert_eq!(again, texts);
+    assert_start_legal(&start, 15);
     fs::remove_dir_all(folder).unwrap();
 }
 
@@ -599,7 +627,7 @@ fn who_writes_a_segment_changes_nothing<const HOOKS: bool>() {
             pool: Arc::default(),
         };
         let journal = match is_stored {
-            true => Journal::Segments(Segments::new(meddler.clone())),
+            true => Journal::Segments(when_due(meddler.clone())),
             false => Journal::Memory(None),
         };
         let pool = with(ONE).journal(journal).build(Numbers).unwrap();
@@ -645,13 +673,13 @@ impl Changing {
 
 impl Manager for Changing {
     type Object = u64;
-    type Error = ();
+    type Error = Infallible;
 
-    fn make(&self, id: u64) -> Result<u64, ()> {
+    fn make(&self, id: u64) -> Result<u64, Infallible> {
         Ok(id)
     }
 
-    fn activate(&self, _number: &mut u64) -> Result<(), ()> {
+    fn activate(&self, _number: &mut u64) -> Result<(), Infallible> {
         self.call("activate");
         let text = self.text.lock().unwrap().take();
         let pool = self
@@ -671,7 +699,7 @@ impl Manager for Changing {
         true
     }
 
-    fn passivate(&self, _number: &mut u64) -> Result<(), ()> {
+    fn passivate(&self, _number: &mut u64) -> Result<(), Infallible> {
         self.call("passivate");
         Ok(())
     }

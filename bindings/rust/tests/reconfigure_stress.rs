@@ -7,10 +7,11 @@ mod common;
 
 use common::chance::{assert_dropped_once, close_empty, Dice, Drops, Failed, Fickle, Thing};
 use common::tasks::{block_on, LONGEST};
-use common::{cut_off, entries_of, new_folder};
+use common::{cut_off, entries_of, new_folder, start_in};
 use std::path::{Path, PathBuf};
 use std::sync::atomic::{AtomicBool, Ordering};
 use std::sync::Arc;
+use std::time::Duration;
 use std::{env, fs, io, thread};
 use zuphinka::{
     Error, Journal, Manager, Pool, Pooled, ReconfigureError, Segment, SegmentFolder, SegmentSink,
@@ -91,11 +92,14 @@ impl Keeping {
         match self {
             Keeping::Dropped => Journal::Off,
             Keeping::Cut => Journal::Memory(None),
-            Keeping::Stored => Journal::Segments(Segments::new(Flaky {
-                folder: SegmentFolder::create(folder).unwrap(),
-                dice: Dice(seed),
-                has_failed: false,
-            })),
+            Keeping::Stored => {
+                let segments = Segments::new(Flaky {
+                    folder: SegmentFolder::create(folder).unwrap(),
+                    dice: Dice(seed),
+                    has_failed: false,
+                });
+                Journal::Segments(segments.store_every(Duration::from_millis(1)))
+            }
         }
     }
 }
@@ -117,7 +121,7 @@ fn hold<const HOOKS: bool>(pool: &Pool<Fickle<HOOKS>>, dice: &mut Dice) {
     };
     let object = match lent {
         Ok(object) => object,
-        Err(Error::TimedOut | Error::Closed | Error::JournalFull | Error::OutOfMemory) => {
+        Err(Error::TimedOut(_) | Error::Closed | Error::JournalFull | Error::OutOfMemory) => {
             panic!("it waits until it is woken")
         }
         Err(_) => return,
@@ -200,6 +204,8 @@ impl<const HOOKS: bool> Table<HOOKS> {
 fn read(folder: &Path) -> Vec<(String, String)> {
     let files = fs::read_dir(folder).unwrap();
     let names = files.map(|file| file.unwrap().file_name().into_string().unwrap());
+    let others = ["callers.txt", "start.toml"];
+    let names = names.filter(|name| !others.contains(&name.as_str()));
     let (mut segments, mut settings): (Vec<_>, Vec<_>) =
         names.partition(|name| name.starts_with("segment-"));
     segments.sort();
@@ -251,7 +257,8 @@ fn check_journal<const HOOKS: bool>(
         }
         Keeping::Stored => {
             while table.pool.flush_journal().is_err() {}
-            let (segments, settings): (Vec<_>, Vec<_>) = read(folder).into_iter().unzip();
+            let (segments, settings): (Vec<_>, Vec<_>) =
+                read(&start_in(folder)).into_iter().unzip();
             let positions = check_entries(&segments, steps);
             for (position, settings) in positions.iter().zip(settings) {
                 assert_eq!(settings, table.settings_at(*position));

@@ -6,11 +6,11 @@ mod hooks;
 mod common;
 
 use common::managers::{Broken, Maker};
-use common::{assert_legal, MemorySink, Stored};
+use common::{assert_legal, when_due, MemorySink, Stored};
 use std::sync::atomic::{AtomicU64, Ordering};
 use std::time::Duration;
 use zuphinka::{
-    Abandoned, Builder, Contradiction, Error, Journal, OpenError, Pool, Pooled, Returned, Segments,
+    Abandoned, Builder, Contradiction, Error, Journal, OpenError, Pool, Pooled, Returned,
 };
 
 with_and_without_hooks! {
@@ -207,7 +207,7 @@ const KINDS: [fn() -> Journal; 2] = [
     || Journal::Memory(None),
     || {
         let (stored, fails) = (Stored::default(), || false);
-        Journal::Segments(Segments::new(MemorySink { stored, fails }))
+        Journal::Segments(when_due(MemorySink { stored, fails }))
     },
 ];
 

@@ -3,19 +3,23 @@
 mod common;
 
 use common::{new_folder, top};
-use std::fs;
+use std::convert::Infallible;
 use std::process::Command;
 use std::time::Duration;
-use zuphinka::{Abandoned, Builder, Journal, Manager, OpenError, Pool, SettingsError};
+use std::{fs, io};
+use zuphinka::{
+    Abandoned, Builder, Journal, Manager, OpenError, Pool, Segment, SegmentSink, Segments,
+    SettingsError,
+};
 
 /// Makes numbers.
 struct Numbers;
 
 impl Manager for Numbers {
     type Object = u64;
-    type Error = ();
+    type Error = Infallible;
 
-    fn make(&self, id: u64) -> Result<u64, ()> {
+    fn make(&self, id: u64) -> Result<u64, Infallible> {
         Ok(id)
     }
 }
@@ -70,7 +74,7 @@ fn settings_are_taken_and_refused_as_the_cases_say() {
         seen += 1;
     }
     assert!(
-        seen > 100 && no_text < 10,
+        seen > 50 && no_text < 10,
         "{seen} cases, of which {no_text} are no text"
     );
 }
@@ -256,6 +260,76 @@ fn a_pool_shows_each_setting() {
             assert_eq!(is_shown(&pool), number == other, "{number}, {other}");
         }
     }
+}
+
+/// A text that comes after a setting is refused, unless it leaves that one as it is.
+#[test]
+fn no_setting_is_lost_by_a_text() {
+    let mut kept = 0;
+    for (number, (set, is_shown)) in SETTINGS.into_iter().enumerate() {
+        let first = set(Pool::builder().settings("").unwrap());
+        assert!(is_shown(&first.build(Numbers).unwrap()), "{number}");
+        match set(Pool::builder()).settings("") {
+            Ok(builder) => {
+                kept += 1;
+                assert!(is_shown(&builder.build(Numbers).unwrap()), "{number}");
+            }
+            Err(error) => assert_eq!(error, SettingsError::NotFirst),
+        }
+    }
+    // The journal, the overtakes and the lifetime.
+    assert_eq!(kept, 3);
+    let once: Builder<Numbers> = Pool::builder().settings("maxTotal = 5\n").unwrap();
+    assert_eq!(once.settings("").map(drop), Err(SettingsError::NotFirst));
+}
+
+/// What a builder sets.
+type Set = fn(Builder<Numbers>) -> Builder<Numbers>;
+
+/// A time that is out of range.
+const LONG: Duration = Duration::from_millis((1 << 53) + 1);
+
+#[test]
+fn a_value_out_of_range_is_told_by_its_method() {
+    struct Nowhere;
+    impl SegmentSink for Nowhere {
+        fn store(&mut self, _: &Segment<'_>) -> io::Result<()> {
+            Ok(())
+        }
+    }
+    let cases: [(Set, &str); 11] = [
+        (|it| it.max_total(1 << 31), "max_total"),
+        (|it| it.max_idle(u32::MAX), "max_idle"),
+        (|it| it.min_idle(1 << 31), "min_idle"),
+        (|it| it.max_wait(LONG), "max_wait"),
+        (
+            |it| it.min_evictable_idle(Duration::MAX),
+            "min_evictable_idle",
+        ),
+        (
+            |it| it.soft_min_evictable_idle(LONG),
+            "soft_min_evictable_idle",
+        ),
+        (|it| it.journal_limit(0), "journal_limit"),
+        (|it| it.journal_limit(u64::MAX), "journal_limit"),
+        (|it| it.journal(Journal::Memory(Some(0))), "Journal::Memory"),
+        (
+            |it| it.journal(Journal::Segments(Segments::new(Nowhere).limit(0))),
+            "Segments::limit",
+        ),
+        (
+            |it| it.abandoned(Abandoned::new().timeout(LONG)),
+            "Abandoned::timeout",
+        ),
+    ];
+    for (set, method) in cases {
+        let refused = set(Pool::builder()).build(Numbers).map(drop).unwrap_err();
+        assert_eq!(refused, OpenError::OutOfRange(method));
+        let message = format!("settings: {method} is out of its range");
+        assert_eq!(refused.to_string(), message);
+    }
+    let builder = Pool::builder().max_total(None).max_wait(None);
+    assert!(builder.max_idle(None).build(Numbers).is_ok());
 }
 
 #[test]

@@ -109,7 +109,8 @@ impl Keeping {
             Keeping::Stored => {
                 let sink = MemorySink { stored, fails };
                 // There is room for all entries, so that no call fails for a slow thread that writes.
-                Journal::Segments(Segments::new(sink).limit(100_000))
+                let segments = Segments::new(sink).limit(100_000);
+                Journal::Segments(segments.store_every(Duration::from_millis(1)))
             }
             Keeping::Dropped => Journal::Off,
         }
@@ -309,7 +310,7 @@ impl<'a, const HOOKS: bool> Player<'a, HOOKS> {
             }
             Some(Err(Error::Exhausted)) if how > 0 => self.marks.push(Mark::GivesUp),
             // It makes no entry if it waited behind others.
-            Some(Err(Error::TimedOut)) => self.marks.push(Mark::GivesUp),
+            Some(Err(Error::TimedOut(_))) => self.marks.push(Mark::GivesUp),
             Some(Err(Error::Closed | Error::Exhausted)) => self.marks.push(Mark::Denied),
             Some(Err(Error::JournalFull | Error::OutOfMemory)) => {
                 panic!("there is room and memory")

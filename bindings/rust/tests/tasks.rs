@@ -316,7 +316,7 @@ fn settings_end_a_wait_at_the_first_poll_after_its_time() {
     now.store(24, Ordering::SeqCst);
     assert!(poll(&mut get, &bell).is_pending());
     now.store(25, Ordering::SeqCst);
-    assert_eq!(error(poll(&mut get, &bell)), Error::TimedOut);
+    assert!(matches!(error(poll(&mut get, &bell)), Error::TimedOut(_)));
     assert_eq!(
         steps_of(&pool)[2..],
         ["borrow 5 = wait", "borrow 5 = timeout"]
@@ -343,7 +343,7 @@ fn a_clock_that_goes_back_ends_no_wait() {
     clock.set(1_019);
     assert!(poll(&mut get, &bell).is_pending());
     clock.set(1_020);
-    assert_eq!(error(poll(&mut get, &bell)), Error::TimedOut);
+    assert!(matches!(error(poll(&mut get, &bell)), Error::TimedOut(_)));
     assert_eq!(
         steps_of(&pool)[2..],
         ["borrow 1000 = wait", "borrow 1000 = timeout"]
@@ -846,9 +846,9 @@ fn a_manager_that_panics_in_a_poll_costs_its_object_only() {
 fn a_new_object_that_fails_ends_its_borrow() {
     let errors = [
         Error::Make(Broken("make")),
-        Error::CreateTest,
+        Error::CreateTest(None),
         Error::Activate(Broken("activate")),
-        Error::BorrowTest,
+        Error::BorrowTest(None),
     ];
     for (place, wanted) in errors.into_iter().enumerate() {
         let mut borrow = Borrow::new(true);

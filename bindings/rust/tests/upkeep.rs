@@ -6,8 +6,12 @@ mod common;
 mod hooks;
 
 use common::managers::{pool_with, Broken, Maker};
-use common::tasks::block_on;
-use common::{assert_legal, panic_quietly, steps_of, texts_of, times_of, MemorySink, Stored};
+use common::tasks::{block_on, LONGEST};
+use common::{
+    assert_legal, in_time, panic_quietly, steps_of, texts_of, times_of, when_due, MemorySink,
+    Stored,
+};
+use std::convert::Infallible;
 use std::error::Error as _;
 use std::io;
 use std::sync::atomic::{AtomicU64, Ordering};
@@ -16,7 +20,7 @@ use std::thread;
 use std::time::{Duration, Instant};
 use zuphinka::{
     Async, AsyncManager, Builder, Error, Failure, Journal, Manager, Pool, Pooled, Returned,
-    Segment, SegmentSink, Segments, Touched,
+    Segment, SegmentSink, Touched,
 };
 
 with_and_without_hooks! {
@@ -29,9 +33,11 @@ with_and_without_hooks! {
     maintenance_looks_at_the_age_of_each_idle_object
     an_object_of_a_lifetime_is_validated_only_if_that_is_set
     times_never_fall_where_ages_are_looked_at
+    an_eviction_run_looks_at_an_age_once
     a_pool_is_maintained_until_it_is_closed
     the_last_handle_ends_the_maintenance
-    the_last_handle_waits_for_the_round_and_hands_over_the_rest
+    the_last_handle_waits_for_no_round
+    a_pool_is_closed_in_time
     the_last_handle_may_be_dropped_in_the_round
     a_pool_says_whether_it_is_closed
     debug_waits_for_no_lock
@@ -210,21 +216,39 @@ fn a_failed_test_is_reported_with_its_reason() {
     reports_have_reasons(|verdict| Async(Tested(verdict)));
 }
 
+/// A call of a pool whose new objects are tested.
+type Call = fn(&Pool<Async<Tested>>) -> Result<(), Error<Broken>>;
+
 #[test]
-fn a_new_object_with_a_reason_fails_its_test() {
-    let next = Verdict::default();
-    let builder = Pool::builder().test_on_create(true).test_on_borrow(true);
-    let pool = builder.build(Async(Tested(next.clone()))).unwrap();
-    for verdict in [Ok(false), Err(Broken("its cable"))] {
-        let fail = || next.set(verdict);
-        fail();
-        assert!(matches!(pool.get(), Err(Error::CreateTest)));
-        fail();
-        assert!(matches!(pool.add(), Err(Error::CreateTest)));
-        fail();
-        assert!(matches!(block_on(pool.get_async()), Err(Error::CreateTest)));
+fn the_reason_of_a_failed_test_is_in_the_error_of_the_call() {
+    let calls: [Call; 3] = [
+        |pool| pool.get().map(drop),
+        |pool| block_on(pool.get_async()).map(drop),
+        |pool| pool.add().map(drop),
+    ];
+    let told = Broken("its cable");
+    for (verdict, reason) in [(Ok(false), None), (Err(told), Some(told))] {
+        let next = Verdict::default();
+        let pool_of = |builder: Builder<_>| builder.build(Async(Tested(next.clone()))).unwrap();
+        let on_create = pool_of(Pool::builder().test_on_create(true));
+        let on_borrow = pool_of(Pool::builder().test_on_borrow(true));
+        let of_create = calls.iter().map(|call| (call, &on_create, true));
+        // An addition is no borrow.
+        let of_borrow = calls[..2].iter().map(|call| (call, &on_borrow, false));
+        for (call, pool, is_create) in of_create.chain(of_borrow) {
+            next.set(verdict);
+            let error = call(pool).unwrap_err();
+            let wanted = match is_create {
+                true => Error::CreateTest(reason),
+                false => Error::BorrowTest(reason),
+            };
+            assert_eq!(error, wanted);
+            let source = error.source().map(ToString::to_string);
+            assert_eq!(source, reason.map(|reason| reason.to_string()));
+            assert_eq!(error.into_manager_error(), reason);
+        }
+        assert_eq!(on_create.counts().destroyed, 3);
     }
-    assert_eq!(pool.counts().destroyed, 6);
 }
 
 fn failures_that_a_call_returns_are_not_reported<const HOOKS: bool>() {
@@ -236,9 +260,9 @@ fn failures_that_a_call_returns_are_not_reported<const HOOKS: bool>() {
     maker.fail("make");
     assert!(matches!(pool.get(), Err(Error::Make(_))));
     maker.fail("validate");
-    assert!(matches!(pool.get(), Err(Error::CreateTest)));
+    assert!(matches!(pool.get(), Err(Error::CreateTest(None))));
     maker.fail("validate");
-    assert!(matches!(pool.add(), Err(Error::CreateTest)));
+    assert!(matches!(pool.add(), Err(Error::CreateTest(None))));
     assert!(reports.lock().unwrap().is_empty());
 }
 
@@ -251,7 +275,7 @@ fn failures_of_sinks_are_reported<const HOOKS: bool>() {
     }
     let (reports, on_error) = reports();
     let (pool, ..) = pool_with::<HOOKS>(|builder| {
-        let segments = Segments::new(Broken).limit(100);
+        let segments = when_due(Broken).limit(100);
         builder
             .journal(Journal::Segments(segments))
             .on_error(on_error)
@@ -397,6 +421,39 @@ fn times_never_fall_where_ages_are_looked_at<const HOOKS: bool>() {
     assert_legal(&pool);
 }
 
+/// The clock falls with each look, so that an object that is too old at one is not at a later one.
+fn an_eviction_run_looks_at_an_age_once<const HOOKS: bool>() {
+    let lifetime = Duration::from_millis(100);
+    let tested: &[&str] = match HOOKS {
+        true => &["activate 0", "validate 0", "passivate 0"],
+        false => &["validate 0"],
+    };
+    let runs = (95..110).map(|start| {
+        let time = Arc::new(AtomicU64::new(0));
+        let told = Arc::clone(&time);
+        let fall = |time: u64| Some(time.saturating_sub(1));
+        let clock = move || told.fetch_update(Ordering::SeqCst, Ordering::SeqCst, fall);
+        let (pool, maker, _) = pool_with::<HOOKS>(|builder| {
+            let builder = builder.max_lifetime(lifetime).test_while_idle(true);
+            builder.clock(move || clock().unwrap())
+        });
+        pool.add().unwrap();
+        maker.calls();
+        time.store(start, Ordering::SeqCst);
+        let destroyed = pool.evict().unwrap().destroyed;
+        let wanted = if destroyed == 1 {
+            &["destroy 0"]
+        } else {
+            tested
+        };
+        assert_eq!(maker.calls(), wanted, "from {start}");
+        assert_legal(&pool);
+        destroyed
+    });
+    let runs: Vec<_> = runs.collect();
+    assert!(runs.contains(&0) && runs.contains(&1), "{runs:?}");
+}
+
 /// Waits until something is so.
 fn wait_until(is_so: impl Fn() -> bool) {
     let end = Instant::now() + Duration::from_secs(30);
@@ -460,11 +517,11 @@ struct Validating<const HOOKS: bool> {
 
 impl<const HOOKS: bool> Manager for Validating<HOOKS> {
     type Object = u64;
-    type Error = ();
+    type Error = Infallible;
     const ACTIVATES: bool = HOOKS;
     const PASSIVATES: bool = HOOKS;
 
-    fn make(&self, id: u64) -> Result<u64, ()> {
+    fn make(&self, id: u64) -> Result<u64, Infallible> {
         self.alive.fetch_add(1, Ordering::SeqCst);
         Ok(id)
     }
@@ -489,7 +546,7 @@ fn validating<const HOOKS: bool>(
         fails: || false,
     };
     let builder = Pool::builder().min_idle(2).test_while_idle(true);
-    let builder = builder.journal(Journal::Segments(Segments::new(sink)));
+    let builder = builder.journal(Journal::Segments(when_due(sink)));
     let pool = builder
         .maintain_every(Duration::from_millis(1))
         .build(Validating {
@@ -505,32 +562,78 @@ fn validating<const HOOKS: bool>(
 fn is_whole(stored: &Stored) -> bool {
     let journal = texts_of(stored).concat();
     let times = |text| journal.matches(text).count();
-    times(" close = ") == 1 && times(" = make ") == times(" = freed")
+    times(" close = count ") == 1 && times(" = make ") == times(" = freed")
 }
 
-fn the_last_handle_waits_for_the_round_and_hands_over_the_rest<const HOOKS: bool>() {
+/// The round waits for a lock while the last handle is dropped. It ends, and hands over the rest, once it has the lock.
+fn the_last_handle_waits_for_no_round<const HOOKS: bool>() {
     for is_guard in [false, true] {
         let (began, has_begun) = mpsc::channel();
-        let (let_go, is_let_go) = mpsc::channel::<()>();
-        let (began, is_let_go) = (Mutex::new(began), Mutex::new(is_let_go));
+        let (began, lock) = (Mutex::new(began), Arc::new(Mutex::new(())));
+        let (wanted, locked) = (Arc::clone(&lock), lock.lock().unwrap());
         let (pool, stored, alive) = validating::<HOOKS>(move || {
             let _ = began.lock().unwrap().send(());
-            let _ = is_let_go.lock().unwrap().recv();
+            drop(wanted.lock());
         });
         // What is dropped last while the thread is in its round.
         let held = is_guard.then(|| pool.get().unwrap());
         has_begun.recv().unwrap();
-        thread::scope(|scope| {
-            scope.spawn(|| {
-                thread::sleep(Duration::from_millis(20));
-                drop(let_go);
-            });
-            drop(pool);
-            drop(held);
-            assert_eq!(alive.load(Ordering::SeqCst), 0);
-            assert!(is_whole(&stored), "{:?}", texts_of(&stored));
-        });
+        in_time(move || drop((pool, held)));
+        assert!(alive.load(Ordering::SeqCst) > 0 && !is_whole(&stored));
+        drop(locked);
+        wait_until(|| alive.load(Ordering::SeqCst) == 0 && is_whole(&stored));
     }
+}
+
+fn a_pool_is_closed_in_time<const HOOKS: bool>() {
+    let (began, has_begun) = mpsc::channel();
+    let (let_go, is_let_go) = mpsc::channel::<()>();
+    let (began, is_let_go) = (Mutex::new(began), Mutex::new(is_let_go));
+    let (pool, stored, alive) = validating::<HOOKS>(move || {
+        let _ = began.lock().unwrap().send(());
+        let _ = is_let_go.lock().unwrap().recv();
+    });
+    let short = Duration::from_millis(5);
+    let held = pool.get().unwrap();
+    has_begun.recv().unwrap();
+    assert!(!pool.close_and_wait(short));
+    drop(held);
+    // Only the thread still has an object, which it validates.
+    assert!(!pool.close_and_wait(short));
+    assert_eq!(alive.load(Ordering::SeqCst), 1);
+    thread::scope(|scope| {
+        scope.spawn(|| {
+            thread::sleep(Duration::from_millis(20));
+            drop(let_go);
+        });
+        assert!(pool.close_and_wait(LONGEST));
+    });
+    assert_eq!(alive.load(Ordering::SeqCst), 0);
+    assert!(is_whole(&stored), "{:?}", texts_of(&stored));
+}
+
+#[test]
+fn a_close_waits_for_each_object() {
+    let (pool, maker, _) = pool_with::<true>(|builder| builder.test_on_return(true));
+    let mut held: Vec<_> = (0..3).map(|_| pool.get().unwrap()).collect();
+    Pooled::invalidate(held.pop().unwrap());
+    maker.calls();
+    thread::scope(|scope| {
+        let began = Instant::now();
+        let closing = scope.spawn(|| pool.close_and_wait(LONGEST));
+        wait_until(|| pool.is_closed());
+        for object in held {
+            assert!(!closing.is_finished());
+            thread::sleep(Duration::from_millis(5));
+            drop(object);
+        }
+        assert!(closing.join().unwrap());
+        assert!(began.elapsed() < LONGEST, "nobody wakes the thread");
+    });
+    let calls = maker.calls();
+    let destroyed = calls.iter().filter(|call| call.starts_with("destroy"));
+    assert_eq!(destroyed.count(), 2);
+    assert_legal(&pool);
 }
 
 fn the_last_handle_may_be_dropped_in_the_round<const HOOKS: bool>() {
@@ -566,7 +669,7 @@ fn debug_waits_for_no_lock<const HOOKS: bool>() {
     let held = pool.get().unwrap();
     shown.lock().unwrap().0 = Some(pool.clone());
     let short = Duration::from_millis(5);
-    assert!(matches!(pool.get_timeout(short), Err(Error::TimedOut)));
+    assert!(matches!(pool.get_timeout(short), Err(Error::TimedOut(_))));
     drop(held);
     let (handle, texts) = std::mem::take(&mut *shown.lock().unwrap());
     assert!(

@@ -13,6 +13,6 @@ pub fn is_legal(alloc: Global, settings: Settings, journal: &[Entry]) -> Result<
         print_entry(entry, &mut text)?;
     }
     let mut verdict = Vec::new(alloc);
-    let is_legal = check(alloc, settings, &mut text.as_slice(), &mut verdict)?;
+    let is_legal = check(alloc, settings, &mut [text.as_slice()], &mut verdict)?;
     Ok(is_legal)
 }

@@ -2,6 +2,7 @@
 ghost use Rattle.std.specs.Prelude.{◌≡◌, count_by, eqb, length};
 
 use crate::colours::Fill;
+use journal_tools::{CallerName, Callers};
 use pool_journal::Phase;
 use std::io::Write;
 use std::{fmt, io};
@@ -13,7 +14,13 @@ pub(crate) enum Value<'a> {
     Text(&'a str),
     Phase(Phase),
     Fill(Fill),
+    Caller(CallerName<'a>),
+    /// The same in a column: at most `LONGEST` characters of its name, or its number.
+    Column(CallerName<'a>),
 }
+
+/// The most characters of a name in a column.
+pub(crate) const LONGEST: usize = 12;
 
 impl fmt::Display for Value<'_> {
     fn fmt<W: fmt::Write>(&self, f: &mut fmt::Formatter<W>) -> fmt::Result {
@@ -22,24 +29,54 @@ impl fmt::Display for Value<'_> {
             Value::Text(text) => f.write_str(text),
             Value::Phase(phase) => write!(f, "{phase:?}"),
             Value::Fill(fill) => write!(f, "{fill}"),
+            Value::Caller(caller) => match caller.name {
+                Some(name) => write_name(f, name, usize::MAX),
+                None => write!(f, "{caller}"),
+            },
+            Value::Column(caller) => match caller.name {
+                Some(name) => write_name(f, name, LONGEST),
+                None => write!(f, "{}", caller.number),
+            },
         }
     }
+}
+
+/// Writes up to `most` characters of a name, as XML has them in a text.
+fn write_name<W: fmt::Write>(f: &mut fmt::Formatter<W>, name: &str, most: usize) -> fmt::Result {
+    for c in name.chars().take(most) {
+        match c {
+            '&' => f.write_str("&amp;")?,
+            '<' => f.write_str("&lt;")?,
+            '>' => f.write_str("&gt;")?,
+            '\u{fffe}' | '\u{ffff}' => f.write_str("?")?,
+            _ if c.is_control() => f.write_str("?")?,
+            _ => f.write_char(c)?,
+        }
+    }
+    Ok(())
 }
 
 /// A picture that is being written. It keeps the error of the first write that fails, and then writes nothing more.
 /// `finish` returns that error, so functions that draw have no `?`.
 pub(crate) struct Canvas<'a, W: Write> {
     out: &'a mut W,
+    callers: &'a Callers,
     result: io::Result<()>,
 }
 
 impl<'a, W: Write> Canvas<'a, W> {
-    /// Returns a canvas that writes to `out`.
-    pub(crate) fn new(out: &'a mut W) -> Canvas<'a, W> {
+    /// Returns a canvas that writes to `out`. Callers have these names.
+    pub(crate) fn new(out: &'a mut W, callers: &'a Callers) -> Canvas<'a, W> {
         Canvas {
             out,
+            callers,
             result: Ok(()),
         }
+    }
+
+    /// Returns a caller, with its name.
+    pub(crate) fn caller(&self, number: u32) -> CallerName<'a> {
+        self.callers.name(number)
     }
 
     /// Writes a text with a value in place of each `{}`, in their order. Each `{` is counted as a place.
@@ -67,7 +104,11 @@ impl<'a, W: Write> Canvas<'a, W> {
 
     /// Ends the picture. Returns the error of the first write that failed.
     pub(crate) fn finish(self) -> io::Result<()> {
-        let Canvas { out: _, result } = self;
+        let Canvas {
+            out: _,
+            callers: _,
+            result,
+        } = self;
         result
     }
 }

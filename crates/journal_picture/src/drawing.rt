@@ -1,11 +1,12 @@
 //! Draws a history with a lane for each object and each caller that waits.
 
-use crate::canvas::{Canvas, Value};
+use crate::canvas::{Canvas, LONGEST, Value};
 use crate::charting::draw_chart;
 use crate::colours::fill_of;
 use crate::history::{Bar, History, Waiting};
 use crate::layout::{BAR, LANE, LEFT, Layout, WIDTH, lane_top};
 use crate::scale::Scale;
+use journal_tools::CallerName;
 use pool_journal::Phase;
 use std::io::Write;
 
@@ -117,9 +118,10 @@ fn draw_axis<W: Write>(out: &mut Canvas<'_, W>, layout: &Layout, scale: &Scale) 
 fn draw_waiters<W: Write>(out: &mut Canvas<'_, W>, history: &History, layout: &Layout) {
     let mut top = layout.waits_top;
     for caller in history.waiters.iter().take(layout.waiters) {
+        let caller = out.caller(*caller);
         out.put(
-            "<text x=\"10\" y=\"{}\">caller {} waits</text>\n",
-            &[top.saturating_add(11), u64::from(*caller)],
+            "<text x=\"10\" y=\"{}\">{} waits</text>\n",
+            &[Value::Number(top.saturating_add(11)), Value::Caller(caller)],
         );
         top = top.saturating_add(LANE);
     }
@@ -140,15 +142,16 @@ fn draw_waits<W: Write>(
 }
 
 fn draw_wait<W: Write>(out: &mut Canvas<'_, W>, wait: &Waiting, top: u64, scale: &Scale) {
+    let caller = out.caller(wait.caller);
     out.put(
-        "<rect x=\"{}\" y=\"{}\" width=\"{}\" height=\"{}\" fill=\"{}\" fill-opacity=\"0.5\"><title>caller {} waits, {} to {} ms</title></rect>\n",
+        "<rect x=\"{}\" y=\"{}\" width=\"{}\" height=\"{}\" fill=\"{}\" fill-opacity=\"0.5\"><title>{} waits, {} to {} ms</title></rect>\n",
         &[
             Value::Number(scale.place_of(wait.from)),
             Value::Number(top),
             Value::Number(scale.width_of(wait.from, wait.until)),
             Value::Number(BAR),
             Value::Fill(fill_of(Phase::Lent, Some(wait.caller))),
-            Value::Number(u64::from(wait.caller)),
+            Value::Caller(caller),
             Value::Number(wait.from),
             Value::Number(wait.until),
         ],
@@ -198,25 +201,33 @@ fn draw_bar<W: Write>(out: &mut Canvas<'_, W>, bar: &Bar, top: u64, scale: &Scal
         ],
     );
     match bar.caller {
-        Some(caller) => out.put("by caller {}", &[caller]),
+        Some(number) => {
+            let caller = out.caller(number);
+            out.put("by {}", &[Value::Caller(caller)]);
+        }
         None => out.text("since before the first entry"),
     }
     out.put(", {} to {} ms</title></rect>\n", &[bar.from, bar.until]);
-    match bar.caller {
-        Some(caller) if bar.phase == Phase::Lent && has_room(width, caller) => out.put(
-            "<text x=\"{}\" y=\"{}\">{}</text>\n",
-            &[
-                x.saturating_add(3),
-                top.saturating_add(11),
-                u64::from(caller),
-            ],
-        ),
-        _ => {}
+    if let Some(number) = bar.caller {
+        let caller = out.caller(number);
+        if bar.phase == Phase::Lent && has_room(width, caller) {
+            out.put(
+                "<text x=\"{}\" y=\"{}\">{}</text>\n",
+                &[
+                    Value::Number(x.saturating_add(3)),
+                    Value::Number(top.saturating_add(11)),
+                    Value::Column(caller),
+                ],
+            );
+        }
     }
 }
 
-/// Returns whether a caller's number can be read in a bar of this width.
-fn has_room(width: u64, caller: u32) -> bool {
-    let digits = u64::from(caller.checked_ilog10().unwrap_or(0)) + 1;
-    width >= 6 + 7 * digits
+/// Returns whether a caller's name in a column, or its number, can be read in a bar of this width.
+fn has_room(width: u64, caller: CallerName<'_>) -> bool {
+    let signs = match caller.name {
+        Some(name) => name.chars().count().min(LONGEST) as u64,
+        None => u64::from(caller.number.checked_ilog10().unwrap_or(0)) + 1,
+    };
+    width >= 6 + 7 * signs
 }

@@ -84,3 +84,10 @@ impl From<AllocError> for Cause {
         Cause::OutOfMemory
     }
 }
+
+/// A read failed.
+impl From<io::Error> for Cause {
+    fn from(_: io::Error) -> Cause {
+        Cause::NotRead
+    }
+}

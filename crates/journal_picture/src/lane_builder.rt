@@ -2,7 +2,7 @@
 
 use crate::counts::Counts;
 use crate::history::{Bar, History, Sample, Waiting};
-use crate::moves::moved;
+use journal_tools::moved;
 use pool_journal::{Answer, Entry, Input, Phase, Record};
 use std::alloc::{AllocError, Global};
 use std::collections::HashMap;

@@ -22,7 +22,6 @@ mod drawing;
 mod error;
 mod help;
 mod history;
-mod incoming;
 mod joint;
 mod journal;
 mod lane_builder;
@@ -30,7 +29,6 @@ mod layout;
 mod loans;
 mod mark_rows;
 mod marks;
-mod moves;
 mod overview;
 mod overview_drawing;
 mod panel;
@@ -45,11 +43,13 @@ use drawing::draw;
 use error::{Cause, PictureError};
 use help::{USES, VERSION};
 use journal::{Journal, Parts};
+use journal_tools::Callers;
 use overview_drawing::draw_overview;
 use reading::read_file;
 use std::env;
 use std::fs::File;
 use std::io::{self, BufWriter, Write};
+use std::path::Path;
 use std::process::ExitCode;
 
 fn main(rt: HostRuntime) -> ExitCode {
@@ -77,10 +77,10 @@ fn arguments_of<'a>(rt: &HostRuntime) -> Result<Vec<String>, PictureError<'a>> {
 }
 
 fn perform<'a>(rt: &HostRuntime, words: &'a [String]) -> Result<(), PictureError<'a>> {
-    match task_of(words) {
+    match task_of(rt.alloc(), words)? {
         Some(Task::Help) => write_text(rt, USES),
         Some(Task::Version) => write_text(rt, VERSION),
-        Some(Task::Draw(paths)) => picture(rt, paths),
+        Some(Task::Draw(paths)) => picture(rt, &paths),
         None => Err(PictureError::WrongArguments),
     }
 }
@@ -94,21 +94,31 @@ fn write_text<'a>(rt: &HostRuntime, text: &str) -> Result<(), PictureError<'a>> 
 }
 
 /// Draws the journal in the files at these paths.
-fn picture<'a>(rt: &HostRuntime, paths: &'a [String]) -> Result<(), PictureError<'a>> {
+fn picture<'a>(rt: &HostRuntime, paths: &[&'a str]) -> Result<(), PictureError<'a>> {
     let mut journal = Journal::new(rt.alloc());
     read_paths(rt, &mut journal, paths)?;
     let parts = journal.into_parts(rt.alloc())?;
-    write_parts(rt, &parts)
+    write_parts(rt, &parts, &callers_beside(rt, paths)?)
+}
+
+/// Returns the names of callers beside the first of these files. There are none beside standard input.
+fn callers_beside<'a>(rt: &HostRuntime, paths: &[&'a str]) -> Result<Callers, PictureError<'a>> {
+    match paths.first() {
+        Some(path) if *path != "-" => {
+            let folder = Path::new(path).parent().unwrap_or(Path::new(""));
+            Ok(Callers::in_folder(rt, folder)?)
+        }
+        _ => Ok(Callers::none(rt.alloc())),
+    }
 }
 
 /// Reads the files at these paths, one after the other.
 fn read_paths<'a>(
     rt: &HostRuntime,
     journal: &mut Journal,
-    paths: &'a [String],
+    paths: &[&'a str],
 ) -> Result<(), PictureError<'a>> {
     for path in paths {
-        let path = path.as_str();
         if let Err(cause) = read_path(rt, journal, path) {
             return Err(PictureError::Journal(path, cause));
         }
@@ -117,19 +127,23 @@ fn read_paths<'a>(
 }
 
 /// Writes the picture to standard output.
-fn write_parts<'a>(rt: &HostRuntime, parts: &Parts) -> Result<(), PictureError<'a>> {
+fn write_parts<'a>(
+    rt: &HostRuntime,
+    parts: &Parts,
+    callers: &Callers,
+) -> Result<(), PictureError<'a>> {
     let mut out = match BufWriter::new(rt.alloc(), io::writer(rt)) {
         Ok(out) => out,
         Err(_) => return Err(PictureError::OutOfMemory),
     };
-    match write_picture(&mut out, parts) {
+    match write_picture(&mut out, parts, callers) {
         Ok(()) => Ok(()),
         Err(_) => Err(PictureError::NotWritten),
     }
 }
 
-fn write_picture<W: Write>(out: &mut W, parts: &Parts) -> io::Result<()> {
-    let mut canvas = Canvas::new(out);
+fn write_picture<W: Write>(out: &mut W, parts: &Parts, callers: &Callers) -> io::Result<()> {
+    let mut canvas = Canvas::new(out, callers);
     match parts {
         Parts::Lanes(history) => draw(&mut canvas, history),
         Parts::Overview(overview, held) => draw_overview(&mut canvas, overview, held),

@@ -209,8 +209,9 @@ fn write_name<W: Write>(out: &mut Canvas<'_, W>, present: &Present) {
             Value::Phase(present.record.phase),
         ],
     );
-    if let Some(caller) = present.caller {
-        out.put(", caller {}", &[caller]);
+    if let Some(number) = present.caller {
+        let caller = out.caller(number);
+        out.put(", {}", &[Value::Caller(caller)]);
     }
     if let Some(from) = present.from {
         out.put(", since {} ms", &[from]);
@@ -243,7 +244,13 @@ fn draw_words<W: Write>(out: &mut Canvas<'_, W>, y: u64, words: &[(u64, &str)]) 
 /// Draws a caller, or a word instead if it is not known.
 fn draw_caller<W: Write>(out: &mut Canvas<'_, W>, x: u64, y: u64, caller: Option<u32>) {
     match caller {
-        Some(caller) => draw_number(out, x, y, u64::from(caller)),
+        Some(number) => {
+            let caller = out.caller(number);
+            out.put(
+                "<text x=\"{}\" y=\"{}\" text-anchor=\"end\">{}</text>",
+                &[Value::Number(x), Value::Number(y), Value::Column(caller)],
+            );
+        }
         None => draw_words(out, y, &[(x, "unknown")]),
     }
 }

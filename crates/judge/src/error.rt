@@ -7,7 +7,7 @@ use pool_core::BaseFault;
 use pool_engines::{EngineFault, FileFault, SegmentFault};
 use pool_journal::LineFault;
 use pool_settings::Escaped;
-use std::alloc::AllocError;
+use std::alloc::{AllocError, AllocFailed};
 use std::fmt::{Formatter, Write};
 use std::io::ErrorKind;
 use std::{fmt, io};
@@ -26,6 +26,22 @@ pub(crate) enum JudgeError<'a> {
     Unopened(&'a str),
     Settings(&'a str, FileFault),
     Segment(&'a str, SegmentFault),
+    /// The folder at this path has segments, and no settings for the first of them.
+    NoSettings(&'a str),
+    /// The folder at this path has no segment.
+    NoSegments(&'a str),
+    /// The folder at this path has no journal, and no folder with one.
+    NoStart(&'a str),
+    /// The segment at this path has no position in its name.
+    NoPosition(&'a str),
+    /// The segment at this path begins with no base.
+    NotABase(&'a str),
+    /// Not one whole base was printed of the segment at this path, or it can't be read.
+    Damaged(&'a str),
+    /// The file of the start in the folder at this path has no time of day.
+    NoZero(&'a str),
+    /// The verdict on a journal whose segment at this path is not legal.
+    NotLegal(&'a str, &'a str),
     NotWritten,
     OutOfMemory,
 }
@@ -39,12 +55,40 @@ impl<'a> JudgeError<'a> {
         }
     }
 
+    /// Returns the error for a folder that was not read.
+    pub(crate) fn of_folder(path: &'a str, cause: &io::Error) -> JudgeError<'a> {
+        match cause.kind() {
+            ErrorKind::OutOfMemory => JudgeError::OutOfMemory,
+            _ => JudgeError::Unopened(path),
+        }
+    }
+
+    /// Returns the error for a segment that was not read.
+    pub(crate) fn of_read(path: &'a str, cause: &io::Error) -> JudgeError<'a> {
+        JudgeError::Segment(
+            path,
+            SegmentFault::Engine(match cause.kind() {
+                ErrorKind::OutOfMemory => EngineFault::OutOfMemory,
+                _ => EngineFault::Read,
+            }),
+        )
+    }
+
+    /// Returns the error for the base that was printed of the segment at this path, which was not read.
+    pub(crate) fn of_printed(path: &'a str, cause: &io::Error) -> JudgeError<'a> {
+        match cause.kind() {
+            ErrorKind::OutOfMemory => JudgeError::OutOfMemory,
+            _ => JudgeError::Damaged(path),
+        }
+    }
+
     /// Returns the exit status of the program.
     pub(crate) fn status(&self) -> u8
         ensures { result ≡ Spec.status_of self.now }
     {
         match self {
             JudgeError::WrongArguments => WRONG_ARGUMENTS,
+            JudgeError::NotLegal(_, _) => ILLEGAL,
             JudgeError::Segment(_, SegmentFault::Illegal(_)) => ILLEGAL,
             JudgeError::Segment(_, SegmentFault::Base(BaseFault::NotABase)) => ILLEGAL,
             _ => FAULT,
@@ -68,13 +112,48 @@ impl fmt::Display for JudgeError<'_> {
                 write!(f, "judge: {}: ", Escaped::new(path))?;
                 write_segment_fault(f, fault)
             }
+            JudgeError::NotLegal(path, verdict) => {
+                write!(f, "judge: {}: {verdict}", Escaped::new(path))
+            }
             JudgeError::NotWritten => f.write_str("judge: write failed"),
             JudgeError::OutOfMemory => f.write_str("judge: out of memory"),
+            JudgeError::NoSettings(path)
+            | JudgeError::NoSegments(path)
+            | JudgeError::NoStart(path)
+            | JudgeError::NoPosition(path)
+            | JudgeError::NotABase(path)
+            | JudgeError::Damaged(path)
+            | JudgeError::NoZero(path) => {
+                write!(f, "judge: {}: {}", Escaped::new(path), lack_of(self))
+            }
         }
     }
 }
 
+/// Returns what a file or a folder lacks.
+fn lack_of(error: &JudgeError<'_>) -> &'static str
+    ensures { result.now ≡ Spec.lack_of error.now }
+{
+    match error {
+        JudgeError::NoSettings(_) => "no settings.toml",
+        JudgeError::NoSegments(_) => "no segments",
+        JudgeError::NoStart(_) => "no settings.toml, and no folder with one",
+        JudgeError::NoPosition(_) => "no position in the name",
+        JudgeError::NotABase(_) => "not a base",
+        JudgeError::Damaged(_) => "what it reached is not one base",
+        JudgeError::NoZero(_) => "no time of day in start.toml",
+        _ => "",
+    }
+}
+
 impl std::error::Error for JudgeError<'_> {}
+
+/// The value could not be stored.
+impl<'a, T: Drop> From<AllocFailed<T>> for JudgeError<'a> {
+    fn from(_: AllocFailed<T>) -> JudgeError<'a> {
+        JudgeError::OutOfMemory
+    }
+}
 
 impl<'a> From<AllocError> for JudgeError<'a> {
     fn from(_: AllocError) -> JudgeError<'a> {

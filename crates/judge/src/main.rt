@@ -1,39 +1,56 @@
-//! Checks one segment of a journal independently: `judge SETTINGS SEGMENT > REACHED`.
+//! Checks journals in segments.
 //!
-//! The pool continues from the base with which the segment begins, and each entry must have the expected answer. The
-//! program prints the base after the segment: the lines with which the next segment must begin. So the segments of a
-//! journal are checked in any order and on any machines. They are one legal journal if each is legal, the first begins
+//! `judge FOLDER` checks all segments in a folder in parallel, each with its settings, and prints the verdict. If the folder
+//! has a folder for each start of a pool, it checks each start. `judge --held FOLDER` lists the objects that are held at
+//! the end.
+//!
+//! `judge SETTINGS SEGMENT > REACHED` checks one segment alone. The pool continues from the base with which the segment
+//! begins, and each entry must have the expected answer. The program prints the base after the segment: the lines with
+//! which the next segment must begin. So the segments of a journal are checked in any order and on any machines.
+//! `judge --join FOLDER REACHED` joins the results: the segments are one legal journal if each is legal, the first begins
 //! at the base before all entries, and each other one begins with the lines that were printed for the one before it.
 //!
-//! The status is 0, 1 for a segment that is not legal, 2 for any other arguments, and 3 for an error. One line on
-//! standard error names the file and the error. `--help` or `--version`, as the only argument, prints the uses or the
-//! version.
+//! The status is 0, 1 for what is not legal, 2 for any other arguments, and 3 for an error. One line on standard error names
+//! the file and the error. `--help` or `--version`, as the only argument, prints the uses or the version.
 #![tactic(auto)]
 
+mod arguments;
 mod error;
+mod folder;
+mod held;
 mod help;
+mod joining;
+mod reporting;
+mod rules;
 mod segment;
+mod whole;
 
+use arguments::{Task, task_of};
 use error::JudgeError;
-use help::{USES, VERSION, asks_for_help, asks_for_version};
-use pool_engines::{EngineFault, SegmentFault, judge_segment, read_settings};
+use held::list_held;
+use help::{USES, VERSION};
+use joining::join_folder;
+use pool_engines::{EngineFault, SegmentFault, judge_segment};
 use pool_journal::print_base;
 use pool_settings::Settings;
+use reporting::{report, settings_in};
 use segment::OneSegment;
-use std::fs::File;
 use std::io::Write;
 use std::path::Path;
 use std::process::ExitCode;
+use std::thread::Threads;
 use std::{env, fs};
+use whole::judge_folder;
 
 fn main(rt: HostRuntime) -> ExitCode {
-    match arguments_of(&rt) {
-        Ok(arguments) => match perform(&rt, &arguments) {
-            Ok(()) => ExitCode::SUCCESS,
+    let status = match arguments_of(&rt) {
+        Ok(arguments) => match perform(&rt, &rt, &arguments) {
+            Ok(status) => status,
             Err(error) => report(&rt, &error),
         },
         Err(error) => report(&rt, &error),
-    }
+    };
+    ExitCode::from(status)
 }
 
 /// Returns the name of the program and the words after it.
@@ -42,14 +59,22 @@ fn arguments_of<'a>(rt: &HostRuntime) -> Result<Vec<String>, JudgeError<'a>> {
     Ok(words.collect(rt.alloc())?)
 }
 
-/// Does what the arguments ask for.
-fn perform<'a>(rt: &HostRuntime, arguments: &'a [String]) -> Result<(), JudgeError<'a>> {
-    match arguments {
-        [_, word] if asks_for_help(word) => write(rt, USES.as_bytes()),
-        [_, word] if asks_for_version(word) => write(rt, VERSION.as_bytes()),
-        [_, settings, segment] => judge(rt, settings.as_str(), segment.as_str()),
-        _ => Err(JudgeError::WrongArguments),
+/// Does what the arguments ask for, and returns the status. The threads are those of the runtime.
+fn perform<'a, R: Threads + Sync>(
+    rt: &HostRuntime,
+    threads: &R,
+    arguments: &'a [String],
+) -> Result<u8, JudgeError<'a>> {
+    match task_of(rt.alloc(), arguments)? {
+        Some(Task::Help) => write(rt, USES.as_bytes())?,
+        Some(Task::Version) => write(rt, VERSION.as_bytes())?,
+        Some(Task::Segment { settings, segment }) => judge(rt, settings, segment)?,
+        Some(Task::Folder { folder }) => return Ok(judge_folder(rt, threads, folder)),
+        Some(Task::Join { folder, reached }) => return Ok(join_folder(rt, folder, reached)),
+        Some(Task::Held { folder }) => return Ok(list_held(rt, folder)),
+        None => return Err(JudgeError::WrongArguments),
     }
+    Ok(0)
 }
 
 /// Checks the segment in a file, and prints the base after it.
@@ -63,11 +88,6 @@ fn judge<'a>(rt: &HostRuntime, settings: &'a str, segment: &'a str) -> Result<()
         Err(SegmentFault::Unopened) => Err(JudgeError::Unopened(segment)),
         Err(fault) => Err(JudgeError::Segment(segment, fault)),
     }
-}
-
-fn settings_in<'a>(rt: &HostRuntime, path: &'a str) -> Result<Settings, JudgeError<'a>> {
-    let mut file = File::open(rt, path).map_err(|_| JudgeError::Unopened(path))?;
-    read_settings(rt.alloc(), &mut file).map_err(|fault| JudgeError::Settings(path, fault))
 }
 
 /// Returns whether the file at this path has the same contents each time that it is opened, as a pipe has not. One that
@@ -94,10 +114,4 @@ fn write<'a>(rt: &HostRuntime, text: &[u8]) -> Result<(), JudgeError<'a>> {
     let mut out = rt.stdout();
     out.write_all(text).map_err(|_| JudgeError::NotWritten)?;
     out.flush().map_err(|_| JudgeError::NotWritten)
-}
-
-/// Prints the error on standard error. If that fails too, the status alone reports it.
-fn report(rt: &HostRuntime, error: &JudgeError<'_>) -> ExitCode {
-    let _ = eprintln!(rt; "{error}");
-    ExitCode::from(error.status())
 }

@@ -112,7 +112,7 @@ removal_through run s taken done same = absurd done
 
 removal_complete : (p : Plan) (cancelled : Bool) (run : EvictRun) (taken : ℕ) (s : reclaim_rules.Stage) → reclaim_rules.IsComplete s → taken ≡ reclaim_rules.taken_of s → IsAt p (after_removal_end cancelled run ends.Complete taken) (with_removal run s)
 removal_complete p true run taken s done same = (reclaim_rules.reclaims zero taken, (tt, refl), refl, removal_through run s taken done same)
-removal_complete p false run taken s done same = (fill_rules.asks 0, refl, removal_through run s taken done same)
+removal_complete p false run taken s done same = (fill_rules.asks 0, (refl, refl), removal_through run s taken done same)
 
 removal_end_at : (p : Plan) (cancelled : Bool) (run : EvictRun) (e : End) (taken : ℕ) (s : reclaim_rules.Stage) → reclaim_rules.IsAt (reclaim_states.Ended e taken) s → IsAt p (after_removal_end cancelled run e taken) (with_removal run s)
 removal_end_at p cancelled run ends.Complete taken s at = removal_complete p cancelled run taken s at.0 at.1

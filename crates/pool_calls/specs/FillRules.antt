@@ -31,21 +31,21 @@ pub data Stage : Type 0 where
   contradicted : ℕ → Answer → Stage
 
 -- the number that a fill has parked at a stage
-abbrev pub parked_of : Stage → ℕ
-parked_of (asks n) = n
-parked_of (adds n stage) = n
-parked_of (through n) = n
-parked_of (failed n o) = n
-parked_of (contradicted n a) = n
+abbrev pub count_of : Stage → ℕ
+count_of (asks n) = n
+count_of (adds n stage) = n
+count_of (through n) = n
+count_of (failed n o) = n
+count_of (contradicted n a) = n
 
--- the number with one more object; it stays at the greatest that has 64 bits
-abbrev pub one_more : ℕ → ℕ
-one_more n = min (n + 1) (2 ^ 64 - 1)
+-- this number in 64 bits: it stays at the greatest
+abbrev pub parked_of : Stage → ℕ
+parked_of stage = min (count_of stage) (2 ^ 64 - 1)
 
 -- its stage with an addition: an object that becomes idle counts, one that found the pool closed doesn't, and the first that
 -- fails ends it
 abbrev pub adding : ℕ → add_rules.Stage → Stage
-adding n add_rules.parked = asks (one_more n)
+adding n add_rules.parked = asks (n + 1)
 adding n (add_rules.gone outcomes.Good) = asks n
 adding n (add_rules.gone o) = failed n o
 adding n (add_rules.contradicted a) = contradicted n a
@@ -90,7 +90,7 @@ Stays p before after = (n : ℕ) (stage : Stage) → IsAtCount p n before stage 
 
 -- the stages for which a state of a fill stands
 abbrev pub IsAt : Plan → FillState → Stage → Type 0
-IsAt p s stage = IsAtCount p s.parked s.addition stage
+IsAt p s stage = IsAtCount p (count_of stage) s.addition stage × (s.parked ≡ parked_of stage)
 
 -- the step that a state asks for
 abbrev pub step_at : FillState → Option Input
@@ -109,8 +109,12 @@ abbrev pub ComesOn : Plan → Event → FillState → FillState → Type 0
 ComesOn p = turns.ComesOn (IsExpected p) next (asks 0) (IsAt p) step_at
 
 -- an action is right at a stage of a fill that has parked this many
-abbrev pub IsRight : Plan → ℕ → Stage → Action → Type 0
-IsRight p n = IsRightOf (asks n) (adds n) (FillEnds n) (IsExpected p)
+abbrev pub IsRightCount : Plan → ℕ → Stage → Action → Type 0
+IsRightCount p n = IsRightOf (asks n) (adds n) (FillEnds n) (IsExpected p)
+
+-- an action is right at a stage
+abbrev pub IsRight : Plan → Stage → Action → Type 0
+IsRight p stage = IsRightCount p (count_of stage) stage
 
 -- ---- fills that are given up
 abbrev pub is_given_up : Bool → Event → Bool

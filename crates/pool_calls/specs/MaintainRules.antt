@@ -63,7 +63,7 @@ IsExpected p (filling run taken stage) input = fill_rules.IsExpected p stage inp
 abbrev pub IsRight : Plan → Stage → Action → Type 0
 IsRight p (evicting stage) action = evict_rules.IsRight p stage action
 IsRight p (reclaiming run stage) action = reclaim_rules.IsRight stage action
-IsRight p (filling run taken stage) action = fill_rules.IsRight p (fill_rules.parked_of stage) stage action
+IsRight p (filling run taken stage) action = fill_rules.IsRight p stage action
 
 -- the counts of the eviction run at a stage
 abbrev pub run_of : Stage → EvictRun

@@ -131,7 +131,7 @@ impl AddState {
         ensures adds { ask ≡ inputs.Add → (p : Plan) (stage : Stage) → IsAt p self stage
             → IsRight p stage result }
         ensures fills { ask ≡ inputs.Fill → (p : Plan) (n : ℕ) (stage : fill_rules.Stage)
-            → IsAtCount p n self stage → fill_rules.IsRight p n stage result }
+            → IsAtCount p n self stage → fill_rules.IsRightCount p n stage result }
         ensures step { step_of result ≡ step_of_state ask self }
         ensures works { (p : Plan) → IsFirst (work_left p self) result }
         ensures room { asks_room result ≡ lacks_room self }

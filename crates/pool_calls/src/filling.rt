@@ -1,5 +1,5 @@
 //! A fill of the idle queue as a state machine: additions, one after the other.
-ghost use Rattle.std.specs.Prelude.{◌≡◌, ◌<◌, ◌≤◌, ◌+◌, Bool, true, false, List, [], Some, IfSome};
+ghost use Rattle.std.specs.Prelude.{◌≡◌, ◌<◌, ◌≤◌, ◌+◌, ℕ, Bool, true, false, List, [], Some, IfSome};
 ghost use Rattle.std.specs.Option.{is_some};
 ghost use Rattle.pool_journal.specs.declared.input.Input.TheVariants as inputs;
 ghost use Rattle.pool_calls.specs.declared.action.Event.TheVariants as events;
@@ -24,7 +24,7 @@ pub struct FillState {
 
 // The state of a fill whose last object is no longer in progress: it asks for the next, unless it is given up.
 fn go_on(parked: u64, cancelled: bool) -> FillState
-    ensures at { (p : Plan) → IsAt p result (asks parked) }
+    ensures at { (p : Plan) (n : ℕ) → parked ≡ parked_of (asks n) → IsAt p result (asks n) }
     ensures work { (p : Plan) → work_left p result.addition ≡ [] }
     ensures ends { HasFewer cancelled 1 result.addition }
     ensures answered { IsAnswered cancelled result.addition }
@@ -46,8 +46,8 @@ fn go_on(parked: u64, cancelled: bool) -> FillState
 
 // The state of a fill whose object is gone, with this outcome: a good one found the pool closed.
 fn after_leaving(parked: u64, cancelled: bool, outcome: Outcome) -> FillState
-    ensures at { (p : Plan) → IsPossibleOutcome p outcome
-        → IsAt p result (adding parked (gone outcome)) }
+    ensures at { (p : Plan) (n : ℕ) → parked ≡ parked_of (asks n) → IsPossibleOutcome p outcome
+        → IsAt p result (adding n (gone outcome)) }
     ensures work { (p : Plan) → work_left p result.addition ≡ [] }
     ensures ends { HasFewer cancelled 1 result.addition }
     ensures answered { IsAnswered cancelled result.addition }
@@ -65,8 +65,8 @@ fn after_leaving(parked: u64, cancelled: bool, outcome: Outcome) -> FillState
 
 // The state of a fill after the answer to a report.
 fn after_progress(parked: u64, cancelled: bool, progress: Progress) -> FillState
-    ensures at { (p : Plan) (stage : add_rules.Stage) → IsAfter p progress stage
-        → IsAt p result (adding parked stage) }
+    ensures at { (p : Plan) (n : ℕ) (stage : add_rules.Stage) → parked ≡ parked_of (asks n)
+        → IsAfter p progress stage → IsAt p result (adding n stage) }
     ensures work { (p : Plan) → work_left p result.addition ≡ work_after progress }
     ensures ends { HasFewer cancelled (progress_left progress + 1) result.addition }
     ensures answered { IsAnswered cancelled result.addition }
@@ -88,7 +88,8 @@ fn after_progress(parked: u64, cancelled: bool, progress: Progress) -> FillState
 }
 
 fn after_asking(parked: u64, answer: Answer) -> FillState
-    ensures at { (p : Plan) → IsAt p result (spec.after_asking parked answer) }
+    ensures at { (p : Plan) (n : ℕ) → parked ≡ parked_of (asks n)
+        → IsAt p result (spec.after_asking n answer) }
     ensures work { (p : Plan) → work_left p result.addition ≡ work_found p answer }
     ensures ends { (cancelled : Bool) → spec.Ends cancelled (events.Answered answer) states.Asks
         result.addition }
@@ -167,7 +168,7 @@ impl FillCall {
     /// Returns what the host does next.
     pub fn action(&self) -> Action
         ensures right { (stage : Stage) → IsAt self.now.plan self.now.state stage
-            → IsRight self.now.plan self.now.state.parked stage result }
+            → IsRight self.now.plan stage result }
         ensures step { step_of result ≡ step_at self.now.state }
         ensures works { IsFirst (work_left self.now.plan self.now.state.addition) result }
         ensures room { asks_room result ≡ lacks_room self.now.state.addition }

@@ -24,10 +24,10 @@ use Rattle.pool_journal.proofs.Pushed.{drawn_from-push}
 use Rattle.pool_journal.proofs.Segments.{records_from-none}
 use Rattle.pool_journal.proofs.Starting.{drawn_from-none}
 use Rattle.pool_settings.specs.declared.settings.Settings.{Settings}
-use Rattle.pool_core.specs.Laws.{IsBelow, IsWithin, IsWithinOr, AtMostMaxTotalFrom, MadeBelowMaxTotal, ObjectsConservedFrom}
+use Rattle.pool_core.specs.Laws.{IsBelow, IsWithin, IsWithinOr, AtMostMaxTotalFrom, AtMostMaxTotalOrBase, MadeBelowMaxTotal, ObjectsConservedFrom}
 use Rattle.pool_stats.specs.Counts.{counts_from}
 use Rattle.pool_core.specs.Legal.{IsLegalFrom, IsLegalBySome}
-use Rattle.pool_core.specs.Openable.{is_destroying, CanContinue, AccountsForEvicted}
+use Rattle.pool_core.specs.Openable.{is_destroying, CanContinue, IsResumable, AccountsForEvicted}
 use Rattle.pool_core.specs.Reply.{is_below, borrow_reply, add_reply, exhausted_reply, has_reached, borrow_candidate, has_min_idle, reply_from}
 use Rattle.pool_core.specs.Steps.{IsEnabled}
 use Rattle.pool_core.proofs.Counted.{one_if, count_cons, counted}
@@ -152,13 +152,13 @@ no_more_within_or : (limit : ℤ) (most n m : ℕ) → m ≤ n → IsWithinOr li
 no_more_within_or limit most n m le (inl is) = inl (no_more_within limit n m le is)
 no_more_within_or limit most n m le (inr is) = inr (omega (arith, le, is))
 
-stays_within_from : (S : Settings) (b : Base) → DueKeepsFrom S b (AtMostMaxTotalFrom S b)
+stays_within_from : (S : Settings) (b : Base) → DueKeepsFrom S b (AtMostMaxTotalOrBase S b)
 stays_within_from S b J e due so_far = by_answer (is_make_answer e.answer) refl
   where
     on : length (present_from b (J ++ e ∷ [])) + one_if (gives_up e.answer) ≡ length (present_from b J) + one_if (is_make_answer e.answer)
     on = present_on_from b J e (due_by_some S b J e due)
 
-    by_answer : (t : Bool) → is_make_answer e.answer ≡ t → AtMostMaxTotalFrom S b (J ++ e ∷ [])
+    by_answer : (t : Bool) → is_make_answer e.answer ≡ t → AtMostMaxTotalOrBase S b (J ++ e ∷ [])
     by_answer true is =
         let le : length (present_from b (J ++ e ∷ [])) ≤ length (present_from b J) + 1 = omega (arith, on, ap one_if is) in
         inl (one_more_within S.max_total (length (present_from b J)) (length (present_from b (J ++ e ∷ []))) le (due_makes_below_from S b J e due is))
@@ -170,18 +170,18 @@ stays_within_from S b J e due so_far = by_answer (is_make_answer e.answer) refl
 pub present_none : (b : Base) → IsWellFormed b → length (present_from b []) ≡ length b.records
 present_none b sound = sym (length-records_from b []) ∙ ap length (records_from-none b sound)
 
-pub at_most_max_total_from : (S : Settings) (b : Base) (J : List Entry) → CanContinue b → IsLegalFrom S b J → AtMostMaxTotalFrom S b J
-at_most_max_total_from S b J runs =
-    each_legal_from S b (AtMostMaxTotalFrom S b) runs.sound (inr (omega (arith, present_none b runs.sound))) (stays_within_from S b) J
+pub at_most_max_total_or_base : (S : Settings) (b : Base) (J : List Entry) → IsResumable b → IsLegalFrom S b J → AtMostMaxTotalOrBase S b J
+at_most_max_total_or_base S b J resumes =
+    each_legal_from S b (AtMostMaxTotalOrBase S b) resumes.sound (inr (omega (arith, present_none b resumes.sound))) (stays_within_from S b) J
 
--- if the objects of the base are within the limit, so are those that are present later
-within_of : (limit : ℤ) (most n : ℕ) → IsWithin limit most → IsWithinOr limit most n → IsWithin limit n
+-- a number within the limit or at most that of a base, which is within the limit
+pub within_of : (limit : ℤ) (most n : ℕ) → IsWithin limit most → IsWithinOr limit most n → IsWithin limit n
 within_of limit most n base (inl is) = is
 within_of limit most n base (inr le) = no_more_within limit most n le base
 
-pub within_from : (S : Settings) (b : Base) (J : List Entry) → CanContinue b → IsWithin S.max_total (length b.records) → IsLegalFrom S b J
-    → IsWithin S.max_total (length (present_from b J))
-within_from S b J runs base legal = within_of S.max_total (length b.records) (length (present_from b J)) base (at_most_max_total_from S b J runs legal)
+pub at_most_max_total_from : (S : Settings) (b : Base) (J : List Entry) → CanContinue S b → IsLegalFrom S b J → AtMostMaxTotalFrom S b J
+at_most_max_total_from S b J runs legal =
+    within_of S.max_total (length b.records) (length (present_from b J)) runs.within (at_most_max_total_or_base S b J runs.resumable legal)
 
 is_below_limit : (limit : ℤ) (n : ℕ) → is_below limit n ≡ true → IsBelow limit n
 is_below_limit (pos limit) n is = ltb-true n limit is
@@ -223,18 +223,18 @@ none_drawn_or_gone b sound adds_up =
     let reclaimed : reclaimed_in [] ≡ 0 = refl in
     omega (arith, adds_up, present_none b sound, drawn_from-none b, freed, reclaimed)
 
-pub drawn_or_gone : (b : Base) (J : List Entry) → CanContinue b → IsLegalBySome b J → DrawnOrGone b J
+pub drawn_or_gone : (b : Base) (J : List Entry) → IsResumable b → IsLegalBySome b J → DrawnOrGone b J
 drawn_or_gone b J runs = each_legal_by_some b (DrawnOrGone b) runs.sound (none_drawn_or_gone b runs.sound runs.adds_up) (stays_drawn_or_gone b) J
 
-pub nothing_lost_from : (b : Base) (J : List Entry) → CanContinue b → IsLegalBySome b J → ObjectsConservedFrom b J
+pub nothing_lost_from : (b : Base) (J : List Entry) → IsResumable b → IsLegalBySome b J → ObjectsConservedFrom b J
 nothing_lost_from b J runs legal =
     omega (arith, drawn_or_gone b J runs legal, length-records_from b J, counted (records_from b J) (each_present_from b J))
 
 -- the objects idle, lent and reserved are within the limit, or at most those of the base
-pub places_within_from : (S : Settings) (b : Base) (J : List Entry) → CanContinue b → IsLegalFrom S b J
+pub places_within_from : (S : Settings) (b : Base) (J : List Entry) → IsResumable b → IsLegalFrom S b J
     → IsWithinOr S.max_total (length b.records) ((counts_from b J).idle + (counts_from b J).lent + (counts_from b J).reserved)
 places_within_from S b J runs legal =
-    subst (IsWithinOr S.max_total (length b.records)) (sym (length-records_from b J) ∙ sym (counted (records_from b J) (each_present_from b J))) (at_most_max_total_from S b J runs legal)
+    subst (IsWithinOr S.max_total (length b.records)) (sym (length-records_from b J) ∙ sym (counted (records_from b J) (each_present_from b J))) (at_most_max_total_or_base S b J runs legal)
 
 -- ---- the objects that are to be destroyed
 

@@ -7,14 +7,14 @@ use Rattle.pool_journal.specs.declared.entry.Entry.{Entry}
 use Rattle.pool_settings.specs.declared.settings.Settings.{Settings}
 use Rattle.pool_core.specs.Laws.{LastingPropertiesFrom, SafetyPropertiesFrom, SafetyProperties}
 use Rattle.pool_core.specs.Legal.{IsLegalBySome, IsLegalFrom, IsLegal}
-use Rattle.pool_core.specs.Openable.{CanContinue}
-use Rattle.pool_core.proofs.Counting.{at_most_max_total_from, made_below_from, nothing_lost_from, within_from}
+use Rattle.pool_core.specs.Openable.{CanContinue, IsResumable}
+use Rattle.pool_core.proofs.Counting.{at_most_max_total_from, made_below_from, nothing_lost_from}
 use Rattle.pool_core.proofs.Lasting.{closed_parks_none_from, closed_base_parks_none, made_anew, made_and_gone_once_from}
 use Rattle.pool_core.proofs.Legality.{legal_by_some}
 use Rattle.pool_core.proofs.Lending.{lent_in_turn_from}
 use Rattle.pool_core.proofs.Opening.{empty_is_openable}
 
-pub keeps_lasting_from : (b : Base) (J : List Entry) → CanContinue b → IsLegalBySome b J → LastingPropertiesFrom b J
+pub keeps_lasting_from : (b : Base) (J : List Entry) → IsResumable b → IsLegalBySome b J → LastingPropertiesFrom b J
 keeps_lasting_from b J runs legal =
     record {
       closed_parks_none = closed_parks_none_from b J runs.sound legal;
@@ -25,24 +25,13 @@ keeps_lasting_from b J runs legal =
       nothing_lost = nothing_lost_from b J runs legal;
     }
 
-pub keeps_laws_from : (S : Settings) (b : Base) (J : List Entry) → CanContinue b → IsLegalFrom S b J → SafetyPropertiesFrom S b J
+pub keeps_laws_from : (S : Settings) (b : Base) (J : List Entry) → CanContinue S b → IsLegalFrom S b J → SafetyPropertiesFrom S b J
 keeps_laws_from S b J runs legal =
-    let lasting = keeps_lasting_from b J runs (legal_by_some S b J legal) in
     record {
       at_most_max_total = at_most_max_total_from S b J runs legal;
-      made_below_max_total = made_below_from S b J runs.sound legal;
-      closed_parks_none = lasting.closed_parks_none;
-      closed_base_parks_none = lasting.closed_base_parks_none;
-      made_and_gone_once = lasting.made_and_gone_once;
-      made_anew = lasting.made_anew;
-      lent_in_turn = lasting.lent_in_turn;
-      nothing_lost = lasting.nothing_lost;
+      made_below_max_total = made_below_from S b J runs.resumable.sound legal;
+      lasting = keeps_lasting_from b J runs.resumable (legal_by_some S b J legal);
     }
 
 pub keeps_laws : (S : Settings) (J : List Entry) → IsLegal S J → SafetyProperties S J
-keeps_laws S J legal =
-    let opens = empty_is_openable S in
-    record {
-      at_most_max_total = within_from S empty_base J opens.runnable opens.within legal;
-      from_empty = keeps_laws_from S empty_base J opens.runnable legal;
-    }
+keeps_laws S J legal = keeps_laws_from S empty_base J (empty_is_openable S).runnable legal

@@ -29,9 +29,13 @@ abbrev pub IsBelow : ℤ → ℕ → Type 0
 IsBelow (pos limit) n = n < limit
 IsBelow (negsuc _) n = ⊤
 
--- the number of present objects is within the limit of the settings, or at most that of the base
+-- the number of present objects is within the limit of the settings
 abbrev pub AtMostMaxTotalFrom : Settings → Base → List Entry → Type 0
-AtMostMaxTotalFrom S b J = IsWithinOr S.max_total (length b.records) (length (present_from b J))
+AtMostMaxTotalFrom S b J = IsWithin S.max_total (length (present_from b J))
+
+-- the number of present objects is within the limit of the settings, or at most that of the base
+abbrev pub AtMostMaxTotalOrBase : Settings → Base → List Entry → Type 0
+AtMostMaxTotalOrBase S b J = IsWithinOr S.max_total (length b.records) (length (present_from b J))
 
 -- an object is made only while fewer are present than the limit of the settings
 abbrev pub MadeBelowMaxTotal : Settings → Base → List Entry → Type 0
@@ -88,18 +92,12 @@ pub record LastingPropertiesFrom (b : Base) (J : List Entry) : Type 0 where
 pub record SafetyPropertiesFrom (S : Settings) (b : Base) (J : List Entry) : Type 0 where
   pub at_most_max_total : AtMostMaxTotalFrom S b J
   pub made_below_max_total : MadeBelowMaxTotal S b J
-  pub closed_parks_none : NoneIdleAfterClose J
-  pub closed_base_parks_none : NoneIdleAfterClosedBase b J
-  pub made_and_gone_once : IdsUsedOnce J
-  pub made_anew : MadeAnew b J
-  pub lent_in_turn : ExclusiveLoansFrom b J
-  pub nothing_lost : ObjectsConservedFrom b J
+  pub lasting : LastingPropertiesFrom b J
 
 -- ---- of whole journals
 
--- the number of present objects is within the limit of the settings
 abbrev pub AtMostMaxTotal : Settings → List Entry → Type 0
-AtMostMaxTotal S J = IsWithin S.max_total (length (present_from empty_base J))
+AtMostMaxTotal S J = AtMostMaxTotalFrom S empty_base J
 
 abbrev pub LeavesLent : List Entry → ℕ → ℕ → Type 0
 LeavesLent J i m = LeavesLentFrom empty_base J i m
@@ -110,7 +108,5 @@ ExclusiveLoans J = ExclusiveLoansFrom empty_base J
 abbrev pub ObjectsConserved : List Entry → Type 0
 ObjectsConserved J = ObjectsConservedFrom empty_base J
 
--- the safety properties of whole legal journals
-pub record SafetyProperties (S : Settings) (J : List Entry) : Type 0 where
-  pub at_most_max_total : AtMostMaxTotal S J
-  pub from_empty : SafetyPropertiesFrom S empty_base J
+abbrev pub SafetyProperties : Settings → List Entry → Type 0
+SafetyProperties S J = SafetyPropertiesFrom S empty_base J

@@ -88,7 +88,7 @@ impl<T> State<T> {
     }
 
     // Applies the answer to the objects and their values.
-    #[inline(always)]
+    #[inline(never)]
     fn move_object(
         &mut self,
         now: StepContext,
@@ -127,6 +127,47 @@ impl<T> State<T> {
                 value
             }
             _ => value,
+        }
+    }
+
+    // Applies the answer, as `move_object`. It is inlined where the answer is known: then only that of a loan or a return is
+    // left of it.
+    #[inline(always)]
+    fn move_known(
+        &mut self,
+        now: StepContext,
+        input: Input,
+        answer: Answer,
+        value: Option<T>,
+    ) -> Option<T>
+        requires before { IsBefore now.position (records_in self.old.places.objects) self.old.next }
+        requires finds { IsEnabled input answer (records_in self.old.places.objects) self.old.next }
+        requires carried { is_some value ≡ carries input }
+        requires reserved { is_make_answer answer ≡ true → 1 ≤ self.old.places.spare_capacity }
+        ensures known { records_in self.new.places.objects
+            ≡ known_after now input answer self.old.next (records_in self.old.places.objects) }
+        ensures values { TransfersValue answer input self.old.places.objects self.new.places.objects value
+            result }
+        ensures rest { self.new ≡ record self.old { places = self.new.places } }
+    {
+        match answer {
+            Answer::Take(id) => taken(value, self.places.take_ready(id)),
+            Answer::Lent => {
+                let id = named_by(input);
+                self.places.set_lent(id, now.at);
+                value
+            }
+            Answer::Check => {
+                let id = named_by(input);
+                self.places.set_returned(id);
+                value
+            }
+            Answer::Parked => {
+                let id = named_by(input);
+                self.places.park(id, now.position, now.at, value.unwrap());
+                None
+            }
+            _ => self.move_object(now, input, answer, value),
         }
     }
 
@@ -194,7 +235,7 @@ impl<T> State<T> {
     {
         self.update_hints(now.at, input, answer);
         let cursor = self.cursor_after(input, answer);
-        let out = self.move_object(now, input, answer, value);
+        let out = self.move_known(now, input, answer, value);
         self.next = next_after(self.next, answer);
         self.closed = self.closed || closes(answer, input);
         self.cursor = cursor;

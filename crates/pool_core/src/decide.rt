@@ -18,6 +18,7 @@ const CLOSED: Answer = Answer::Refused(Cause::Closed);
 
 impl<T> State<T> {
     // The phase of an object, and whether nothing has happened to it since it was made.
+    #[inline(always)]
     fn phase_and_is_new(&self, id: u64) -> (Phase, bool)
         ensures phase { result.0 ≡ phase_of (record_in (records_in self.now.places.objects) id) }
         ensures is_new { result.1 ≡ new_of (record_in (records_in self.now.places.objects) id) }
@@ -29,6 +30,7 @@ impl<T> State<T> {
     }
 
     // The object that a borrow takes.
+    #[inline(always)]
     fn borrow_candidate(&self) -> Option<u64>
         ensures { result ≡ borrow_candidate self.now.settings.lifo
             (records_in self.now.places.objects) }
@@ -161,6 +163,7 @@ impl<T> State<T> {
     }
 
     // The answer to a call for an object: `answer` if it is lent.
+    #[inline(always)]
     fn answer_if_lent(&self, id: u64, answer: Answer) -> Answer
         ensures { result ≡ lent_reply self.now.settings.abandoned
             (phase_of (record_in (records_in self.now.places.objects) id)) answer }

@@ -68,8 +68,11 @@ impl DrivenPool {
         let Answer::Take(id) = self.core.due(at, input) else {
             return None;
         };
-        match self.core.step(caller, at, input, None) {
-            Ok((_, out)) => {
+        match self
+            .core
+            .step_due(caller, at, input, Answer::Take(id), None)
+        {
+            Ok(out) => {
                 self.waiters.note_lent(available);
                 self.last = at;
                 Some((id, out.unwrap()))
@@ -118,13 +121,9 @@ impl DrivenPool {
         let Answer::Check = self.core.due(at, input) else {
             return false;
         };
-        match self.core.step(caller, at, input, None) {
-            Ok(_) => {
-                self.last = at;
-                true
-            }
-            Err(_) => false,
-        }
+        let _ = self.core.complete(caller, at, input, Answer::Check, None);
+        self.last = at;
+        true
     }
 
     /// Takes an object back that a caller returns in order, by the two steps of a return, at a time as that of

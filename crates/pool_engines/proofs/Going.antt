@@ -1,13 +1,14 @@
 -- An engine on its way through a stream.
-use Rattle.std.proofs.Common.{◌≡◌, ℕ, ◌≤◌, true, false, List, [], ◌++◌, length, take, drop, length-drop, arith, Option, Some, None, Result, Ok, Err, IfSome, unwrap_or, refl, sym, ap, ◌∙◌, subst, append_assoc, append-nil, take-append-drop}
+use Rattle.std.proofs.Common.{◌≡◌, ℕ, ◌+◌, ◌*◌, ◌<◌, ◌≤◌, true, false, List, [], ◌++◌, length, take, drop, length-append, length-drop, length-take, arith, Option, Some, None, Result, Ok, Err, IfSome, unwrap_or, refl, sym, ap, ◌∙◌, subst, append_assoc, append-nil, take-append-drop}
 use Rattle.std.specs.Io.KnownBytes.{Appends, Consumes, IsAtEnd, Keeps}
 use Rattle.std.proofs.KnownBytes.{Appends-trans, Consumes-trans, Consumes-kept, Consumes-nil, Appends-nil}
 use Rattle.std.proofs.lemmas.Bool.{false≢true}
 use Rattle.pool_engines.specs.Handing.{AppendsFront}
 use Rattle.std.specs.Prelude.{Contains}
+use Rattle.pool_journal.specs.Appending.{longest_line}
 use Rattle.pool_journal.specs.Text.{line_feed}
 use Rattle.pool_engines.specs.Faults.{is_read_failure, is_write_failure}
-use Rattle.pool_engines.specs.Leaving.{read_ahead}
+use Rattle.pool_engines.specs.Leaving.{most_bytes, read_ahead}
 use Rattle.pool_engines.specs.Engine.{AppendsOutput, WritesOutput, Passes}
 use Rattle.pool_engines.specs.declared.engine_fault.EngineFault.{EngineFault}
 use Rattle.pool_engines.specs.declared.engine_fault.EngineFault.TheVariants.{Line, Full, OutOfMemory, Read, Write}
@@ -50,12 +51,24 @@ pub left-at_end : (now : Option (List ℕ)) → IsAtEnd now → left now ≡ []
 left-at_end None h = refl
 left-at_end (Some xs) h = h
 
-module _ {E F : Type 0} (settings : E → F) (taken reported : E → List ℕ) (active : E → Type 0) (is_partial : List ℕ → Type 0) (ends : E → List ℕ → Result (Unit {0}) EngineFault → Type 0) (begun : E) (known held : Option (List ℕ)) where
+-- a line is taken: the bytes of those taken, and those that the lines still left can have
+pub took_short : (before after begun : ℕ) (old new shown : List ℕ) (count : ℕ) → length old + longest_line * before ≤ longest_line * begun → new ≡ old ++ take count shown
+    → count ≤ longest_line → after < before → length new + longest_line * after ≤ longest_line * begun
+took_short before after begun old new shown count short is line fewer =
+    omega (arith, short, ap length is, length-append old (take count shown), length-take count shown, line, fewer)
+
+-- more is read, at most the bytes of some of the lines still left, and of one more
+pub refilled : (taken pending left lines begun : ℕ) → taken + longest_line * left ≤ longest_line * begun → lines ≤ left → pending ≤ most_bytes lines
+    → taken + pending ≤ most_bytes begun
+refilled taken pending left lines begun short fewer within = omega (arith, short, fewer, within)
+
+module _ {E F : Type 0} (settings : E → F) (taken reported : E → List ℕ) (active : E → Type 0) (is_partial : List ℕ → Type 0) (ends : E → List ℕ → Result (Unit {0}) EngineFault → Type 0) (most : ℕ) (begun : E) (known held : Option (List ℕ)) where
   pub record Going (engine : E) (now written : Option (List ℕ)) (pending buffered : List ℕ) : Type 0 where
     pub standing : active engine
     pub same : settings engine ≡ settings begun
     pub took : Consumes known now (taken engine ++ pending)
     pub ahead : length pending ≤ read_ahead
+    pub within : length (taken engine) + length pending ≤ most
     pub gave : Gave (reported engine) held written buffered
 
   WritesOutput-gave : (result : Result (Unit {0}) EngineFault) (engine : E) (written : Option (List ℕ)) (buffered : List ℕ) → Gave (reported engine) held written buffered → WritesOutput settings taken reported active is_partial ends result engine held written buffered
@@ -69,30 +82,30 @@ module _ {E F : Type 0} (settings : E → F) (taken reported : E → List ℕ) (
   -- the engine ends before the pending bytes
   pub Passes-ended : (result : Result (Unit {0}) EngineFault) (old new : E) (now written : Option (List ℕ)) (pending before after shown : List ℕ) → Going old now written pending before → LeavesNoLine result pending → shown ≡ pending
       → taken new ≡ taken old → AppendsOutput settings taken reported active is_partial ends old new before after → ((more : List ℕ) → ends new (shown ++ more) result)
-      → Passes settings taken reported active is_partial ends result begun new known now held written after
+      → Passes settings taken reported active is_partial ends most result begun new known now held written after
   Passes-ended result old new now written pending before after shown going leaves all same (words, grown, is, stay) ended = record {
     rest = pending ++ left now;
     same = stay ∙ going.same;
     stream = IfSome-consumed known now (taken new) pending (subst (λ l. Consumes known now (l ++ pending)) (sym same) going.took);
-    leaves = (pending, subst (λ l. Consumes known now (l ++ pending)) (sym same) going.took, going.ahead, leaves);
+    leaves = (pending, subst (λ l. Consumes known now (l ++ pending)) (sym same) going.took, going.ahead, leaves, omega (arith, going.within, ap length same));
     ended = subst (λ l. ends new (l ++ left now) result) all (ended (left now));
     gave = WritesOutput-gave result new written after (Gave-more (reported old) (reported new) held written before after words going.gave grown is);
   }
 
   -- the engine is stopped
   pub Passes-stopped : (result : Result (Unit {0}) EngineFault) (engine : E) (now written : Option (List ℕ)) (pending buffered : List ℕ) → Going engine now written pending buffered → LeavesNoLine result pending
-      → ((rest : List ℕ) → ends engine rest result) → Passes settings taken reported active is_partial ends result begun engine known now held written buffered
+      → ((rest : List ℕ) → ends engine rest result) → Passes settings taken reported active is_partial ends most result begun engine known now held written buffered
   Passes-stopped result engine now written pending buffered going leaves ended =
       Passes-ended result engine engine now written pending buffered buffered pending going leaves refl refl ([], sym (append-nil buffered), sym (append-nil (reported engine)), refl) (λ more. ended (pending ++ more))
 
   -- the writer fails
   pub Passes-failed : (engine : E) (now mid written : Option (List ℕ)) (pending before after : List ℕ) → Going engine now mid pending before → AppendsFront mid written before
-      → ((rest : List ℕ) → ends engine rest (Err Write)) → Passes settings taken reported active is_partial ends (Err Write) begun engine known now held written after
+      → ((rest : List ℕ) → ends engine rest (Err Write)) → Passes settings taken reported active is_partial ends most (Err Write) begun engine known now held written after
   Passes-failed engine now mid written pending before after going failed ended = record {
     rest = pending ++ left now;
     same = going.same;
     stream = IfSome-consumed known now (taken engine) pending going.took;
-    leaves = (pending, going.took, going.ahead, λ reported. absurd (false≢true reported));
+    leaves = (pending, going.took, going.ahead, (λ reported. absurd (false≢true reported)), going.within);
     ended = ended (pending ++ left now);
     gave = Gave-failed (reported engine) held mid written before going.gave failed;
   }
@@ -105,6 +118,7 @@ module _ {E F : Type 0} (settings : E → F) (taken reported : E → List ℕ) (
     same = stay ∙ going.same;
     took = subst (Consumes known now) (ap (λ l. taken old ++ l) (sym (take-append-drop count pending)) ∙ sym (append_assoc (taken old) (take count pending) (drop count pending)) ∙ ap (λ l. l ++ drop count pending) (sym (is ∙ ap (λ l. taken old ++ take count l) all))) going.took;
     ahead = omega (arith, length-drop count pending, going.ahead);
+    within = omega (arith, ap length is, length-append (taken old) (take count shown), ap (λ l. length (take count l)) all, length-take count pending, length-drop count pending, going.within);
     gave = Gave-more (reported old) (reported new) held written before after words going.gave grown reported_is;
   }
 
@@ -116,6 +130,7 @@ module _ {E F : Type 0} (settings : E → F) (taken reported : E → List ℕ) (
     same = going.same;
     took = going.took;
     ahead = going.ahead;
+    within = going.within;
     gave = Gave-sent (reported engine) held mid written before after sent going.gave parts given;
   }
 
@@ -126,13 +141,14 @@ module _ {E F : Type 0} (settings : E → F) (taken reported : E → List ℕ) (
       Going-sent engine now mid written pending before after before going (sym (ap (λ l. before ++ l) empty ∙ append-nil before)) given
 
   -- more was read
-  pub Going-filled : (engine : E) (old now written : Option (List ℕ)) (before after more buffered : List ℕ) → Going engine old written before buffered → after ≡ before ++ more → length after ≤ read_ahead → Consumes old now more
+  pub Going-filled : (engine : E) (old now written : Option (List ℕ)) (before after more buffered : List ℕ) → Going engine old written before buffered → after ≡ before ++ more → length after ≤ read_ahead → length (taken engine) + length after ≤ most → Consumes old now more
       → Going engine now written after buffered
-  Going-filled engine old now written before after more buffered going grown within came = record {
+  Going-filled engine old now written before after more buffered going grown ahead within came = record {
     standing = going.standing;
     same = going.same;
     took = subst (Consumes known now) (append_assoc (taken engine) before more ∙ ap (λ l. taken engine ++ l) (sym grown)) (Consumes-trans known old now (taken engine ++ before) more going.took came);
-    ahead = within;
+    ahead = ahead;
+    within = within;
     gave = going.gave;
   }
 
@@ -144,18 +160,19 @@ module _ {E F : Type 0} (settings : E → F) (taken reported : E → List ℕ) (
     same = going.same;
     took = Consumes-kept known old now (taken engine ++ pending) going.took kept;
     ahead = going.ahead;
+    within = going.within;
     gave = going.gave;
   }
 
   -- the stream is at its end
   pub Passes-finished : (result : Result (Unit {0}) EngineFault) (old new : E) (now written : Option (List ℕ)) (pending before after shown : List ℕ) → Going old now written pending before → LeavesNoLine result pending → shown ≡ pending → IsAtEnd now
       → taken new ≡ taken old → AppendsOutput settings taken reported active is_partial ends old new before after → ends new shown result
-      → Passes settings taken reported active is_partial ends result begun new known now held written after
+      → Passes settings taken reported active is_partial ends most result begun new known now held written after
   Passes-finished result old new now written pending before after shown going leaves all at_end same (words, grown, is, stay) ended = record {
     rest = pending ++ left now;
     same = stay ∙ going.same;
     stream = IfSome-consumed known now (taken new) pending (subst (λ l. Consumes known now (l ++ pending)) (sym same) going.took);
-    leaves = (pending, subst (λ l. Consumes known now (l ++ pending)) (sym same) going.took, going.ahead, leaves);
+    leaves = (pending, subst (λ l. Consumes known now (l ++ pending)) (sym same) going.took, going.ahead, leaves, omega (arith, going.within, ap length same));
     ended = subst (λ l. ends new l result) (sym (ap (λ l. pending ++ l) (left-at_end now at_end) ∙ append-nil pending ∙ sym all)) ended;
     gave = WritesOutput-gave result new written after (Gave-more (reported old) (reported new) held written before after words going.gave grown is);
   }
@@ -172,6 +189,7 @@ module _ {E F : Type 0} (settings : E → F) (taken reported : E → List ℕ) (
     same = refl;
     took = subst (Consumes known known) (sym (append-nil (taken begun) ∙ none_taken)) (Consumes-nil known);
     ahead = omega arith;
+    within = omega (arith, ap length none_taken);
     gave = ([], none_reported, Appends-nil held);
   }
 
@@ -193,18 +211,18 @@ module _ {E F : Type 0} (settings : E → F) (taken reported : E → List ℕ) (
   Gave-from (Err Write) engine written buffered works h = absurd (false≢true (sym works))
 
   -- the buffered output is written at the end
-  pub Passes-handed : (result : Result (Unit {0}) EngineFault) (engine : E) (now mid written : Option (List ℕ)) (buffered : List ℕ) → is_write_failure result ≡ false → Passes settings taken reported active is_partial ends result begun engine known now held mid buffered → Appends mid written buffered
-      → Passes settings taken reported active is_partial ends result begun engine known now held written []
+  pub Passes-handed : (result : Result (Unit {0}) EngineFault) (engine : E) (now mid written : Option (List ℕ)) (buffered : List ℕ) → is_write_failure result ≡ false → Passes settings taken reported active is_partial ends most result begun engine known now held mid buffered → Appends mid written buffered
+      → Passes settings taken reported active is_partial ends most result begun engine known now held written []
   Passes-handed result engine now mid written buffered works p given = record { rest = p.rest; same = p.same; stream = p.stream; leaves = p.leaves; ended = p.ended; gave = WritesOutput-handed result engine mid written buffered works p.gave given }
 
   -- the writer fails at the end
-  pub Passes-unhanded : (result : Result (Unit {0}) EngineFault) (engine : E) (now mid written : Option (List ℕ)) (buffered : List ℕ) → is_write_failure result ≡ false → Passes settings taken reported active is_partial ends result begun engine known now held mid buffered → AppendsFront mid written buffered
-      → ((rest : List ℕ) → ends engine rest result → ends engine rest (Err Write)) → Passes settings taken reported active is_partial ends (Err Write) begun engine known now held written []
-  Passes-unhanded result engine now mid written buffered works p failed fails = record { rest = p.rest; same = p.same; stream = p.stream; leaves = (p.leaves.0, p.leaves.1, p.leaves.2, λ reported. absurd (false≢true reported)); ended = fails p.rest p.ended; gave = Gave-failed (reported engine) held mid written buffered (Gave-from result engine mid buffered works p.gave) failed }
+  pub Passes-unhanded : (result : Result (Unit {0}) EngineFault) (engine : E) (now mid written : Option (List ℕ)) (buffered : List ℕ) → is_write_failure result ≡ false → Passes settings taken reported active is_partial ends most result begun engine known now held mid buffered → AppendsFront mid written buffered
+      → ((rest : List ℕ) → ends engine rest result → ends engine rest (Err Write)) → Passes settings taken reported active is_partial ends most (Err Write) begun engine known now held written []
+  Passes-unhanded result engine now mid written buffered works p failed fails = record { rest = p.rest; same = p.same; stream = p.stream; leaves = (p.leaves.0, p.leaves.1, p.leaves.2, (λ reported. absurd (false≢true reported)), p.leaves.4); ended = fails p.rest p.ended; gave = Gave-failed (reported engine) held mid written buffered (Gave-from result engine mid buffered works p.gave) failed }
 
   -- the writer had failed before
-  pub Passes-broken : (result : Result (Unit {0}) EngineFault) (engine : E) (now written : Option (List ℕ)) (buffered : List ℕ) → is_write_failure result ≡ true → Passes settings taken reported active is_partial ends result begun engine known now held written buffered
-      → Passes settings taken reported active is_partial ends result begun engine known now held written []
+  pub Passes-broken : (result : Result (Unit {0}) EngineFault) (engine : E) (now written : Option (List ℕ)) (buffered : List ℕ) → is_write_failure result ≡ true → Passes settings taken reported active is_partial ends most result begun engine known now held written buffered
+      → Passes settings taken reported active is_partial ends most result begun engine known now held written []
   Passes-broken (Ok u) engine now written buffered broken p = absurd (false≢true broken)
   Passes-broken (Err (Line n f)) engine now written buffered broken p = absurd (false≢true broken)
   Passes-broken (Err (Full n)) engine now written buffered broken p = absurd (false≢true broken)

@@ -1,6 +1,7 @@
 -- What an engine does with the lines of a stream.
 use Rattle.std.specs.Prelude.{◌≡◌, ⊤, ℕ, ◌<◌, ◌≤◌, List, ◌++◌, length, take, Option, Result, Ok, Err, IfSome}
 use Rattle.std.specs.Io.KnownBytes.{Appends}
+use Rattle.pool_journal.specs.Appending.{longest_line}
 use Rattle.pool_engines.specs.Faults.{is_read_failure}
 use Rattle.pool_engines.specs.Files.{IsPartial}
 use Rattle.pool_engines.specs.Handing.{AppendsFront}
@@ -33,6 +34,10 @@ TakesOne lines_left (Ok Incomplete) old new = lines_left new ≡ lines_left old
 TakesOne lines_left (Ok Finished) old new = ⊤
 TakesOne lines_left (Err fault) old new = ⊤
 
+-- the bytes begin with a line of this length, line feed included
+abbrev pub IsLine : ℕ → List ℕ → Type 0
+IsLine count bytes = (0 < count) × (count ≤ length bytes) × (count ≤ longest_line)
+
 -- Definitions for an engine of the type E: its fixed parameters, such as its settings, the bytes of the lines that it took, its
 -- output for them, whether it can continue, which bytes contain no whole line, and what holds if it ends before the rest of a
 -- stream.
@@ -43,7 +48,7 @@ module _ {E F : Type 0} (settings : E → F) (taken reported : E → List ℕ) (
 
   -- one turn of the engine, before these bytes
   abbrev pub HandlesLine : Result LineProgress EngineFault → E → E → List ℕ → List ℕ → List ℕ → Type 0
-  HandlesLine (Ok (Consumed count)) old new bytes before after = active new × ((0 < count) × (count ≤ length bytes)) × (taken new ≡ taken old ++ take count bytes) × AppendsOutput old new before after
+  HandlesLine (Ok (Consumed count)) old new bytes before after = active new × IsLine count bytes × (taken new ≡ taken old ++ take count bytes) × AppendsOutput old new before after
   HandlesLine (Ok Incomplete) old new bytes before after = (new ≡ old) × (after ≡ before) × IsPartial bytes × is_partial bytes
   HandlesLine (Ok Finished) old new bytes before after = (taken new ≡ taken old) × AppendsOutput old new before after × ((more : List ℕ) → ends new (bytes ++ more) (Ok tt))
   HandlesLine (Err fault) old new bytes before after = (taken new ≡ taken old) × AppendsOutput old new before after × ((more : List ℕ) → ends new (bytes ++ more) (Err fault))
@@ -57,12 +62,12 @@ module _ {E F : Type 0} (settings : E → F) (taken reported : E → List ℕ) (
   WritesOutput (Err Write) engine held written buffered = AppendsFront held written (reported engine)
   WritesOutput _ engine held written buffered = (sent : List ℕ) × (reported engine ≡ sent ++ buffered) × Appends held written sent
 
-  -- the engine has finished with a stream
-  pub record Passes (result : Result (Unit {0}) EngineFault) (begun engine : E) (known left held written : Option (List ℕ)) (buffered : List ℕ) : Type 0 where
+  -- the engine has finished with a stream, of which it read at most this number of bytes
+  pub record Passes (most : ℕ) (result : Result (Unit {0}) EngineFault) (begun engine : E) (known left held written : Option (List ℕ)) (buffered : List ℕ) : Type 0 where
     pub rest : List ℕ
     pub same : settings engine ≡ settings begun
     pub stream : IfSome known (λ bytes. bytes ≡ taken engine ++ rest)
-    pub leaves : ReadsAheadAtMost (is_read_failure result) known left (taken engine)
+    pub leaves : ReadsAheadAtMost most (is_read_failure result) known left (taken engine)
     pub ended : ends engine rest result
     pub gave : WritesOutput result engine held written buffered
 

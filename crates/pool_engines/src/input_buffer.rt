@@ -1,7 +1,7 @@
 //! The bytes that were read from a stream and are not handled yet.
 ghost use Rattle.std.specs.Prelude.{◌≡◌, ℕ, ◌+◌, ◌-◌, ◌<◌, ◌≤◌, List, [], ◌++◌, length, take, drop, slice_range, is_err, IfOk, IfErr, OnOk, OnErr};
 ghost use Rattle.std.specs.Io.KnownBytes.{Consumes, IsAtEnd, Keeps};
-ghost use Rattle.pool_engines.specs.Leaving.{read_ahead};
+ghost use Rattle.pool_engines.specs.Leaving.{most_bytes, read_ahead};
 ghost use Rattle.pool_engines.specs.Faults.{IsReported};
 
 use crate::engine_fault::EngineFault;
@@ -11,6 +11,9 @@ use std::marker::Model;
 
 /// The capacity of the input buffer, in bytes.
 const CAPACITY: usize = 65_536;
+
+/// The most bytes of a line that can be read, line feed included.
+pub(crate) const LINE: usize = 256;
 
 /// The bytes of a stream that were read and aren't handled yet.
 #[derive(Drop)]
@@ -54,8 +57,13 @@ impl InputBuffer {
         self.start += count;
     }
 
-    /// Reads more bytes after the buffered ones, and returns their number: 0 only at the end of the stream.
-    pub(crate) fn fill<R: Source>(&mut self, reader: &mut R) -> Result<usize, EngineFault>
+    /// Reads more bytes after the buffered ones, and returns their number: 0 only at the end of the stream. Then as many
+    /// bytes are buffered as this number of lines and one more can have, or fewer.
+    pub(crate) fn fill<R: Source>(
+        &mut self,
+        lines: u64,
+        reader: &mut R,
+    ) -> Result<usize, EngineFault>
         requires { length self.old < 256 }
         ensures more { IfOk result (λ count. (more : List ℕ) × (length more ≡ count)
             × (self.new ≡ self.old ++ more)
@@ -66,27 +74,29 @@ impl InputBuffer {
         ensures fault { IfErr result (λ fault. fault ≡ EngineFault.Read) }
         ensures reported { IsReported (is_err result) (R.may_have_failed reader.old)
             (R.may_have_failed reader.new) }
-        ensures ahead { length self.new ≤ read_ahead }
+        ensures ahead { (length self.new ≤ read_ahead) × (length self.new ≤ most_bytes lines) }
     {
         let kept = self.end - self.start;
         self.buffer.copy_within(self.start..self.end, 0);
         self.start = 0;
         self.end = kept;
-        let count = read_behind(&mut self.buffer, kept, reader)?;
+        let most = LINE * (lines.min(255) as usize + 1);
+        let count = read_behind(&mut self.buffer, kept, most, reader)?;
         self.end = kept + count;
         Ok(count)
     }
 }
 
-/// Reads into the buffer from an index on.
+/// Reads into the buffer from an index on, and up to another.
 pub(crate) fn read_behind<R: Source>(
     buffer: &mut [u8],
     from: usize,
+    to: usize,
     reader: &mut R,
 ) -> Result<usize, EngineFault>
-    requires { from < length buffer.old }
+    requires { (from < to) × (to ≤ length buffer.old) }
     ensures front { take from buffer.new ≡ take from buffer.old }
-    ensures more { IfOk result (λ count. (from + count ≤ length buffer.new)
+    ensures more { IfOk result (λ count. (from + count ≤ to)
         × Consumes (R.remaining reader.old) (R.remaining reader.new)
         (slice_range buffer.new from (from + count))) }
     ensures end { result ≡ Ok 0 → IsAtEnd (R.remaining reader.new) }
@@ -95,7 +105,7 @@ pub(crate) fn read_behind<R: Source>(
     ensures reported { IsReported (is_err result) (R.may_have_failed reader.old)
         (R.may_have_failed reader.new) }
 {
-    match reader.read_some(&mut buffer[from..]) {
+    match reader.read_some(&mut buffer[from..to]) {
         Ok(count) => Ok(count),
         Err(_) => Err(EngineFault::Read),
     }

@@ -57,9 +57,10 @@ fn fill<R: Source>(buffer: &mut [u8], reader: &mut R) -> Result<usize, FileFault
     ensures reported { IsReported (is_err result) (R.may_have_failed reader.old)
         (R.may_have_failed reader.new) }
 {
+    let most = buffer.len();
     let mut count = 0;
-    while count < buffer.len() {
-        match read_behind(buffer, count, reader) {
+    while count < most {
+        match read_behind(buffer, count, most, reader) {
             Ok(0) => return Ok(count),
             Ok(more) => count += more,
             Err(_) => return Err(FileFault::Read),

@@ -1,5 +1,5 @@
 //! The writers that engines write to, and writes that go on after a signal.
-ghost use Rattle.std.specs.Prelude.{◌≢◌, ◌<◌, true, length, IfOk, IfErr};
+ghost use Rattle.std.specs.Prelude.{◌≢◌, ◌<◌, true, false, length, IfOk, IfErr};
 ghost use Rattle.std.specs.Io.{WritesAtMost};
 ghost use Rattle.std.specs.Io.KnownBytes.{Keeps, WriteAppends};
 ghost use Rattle.std.specs.IoError.{error_kind};
@@ -54,6 +54,19 @@ impl Sink for Vec<u8> {
 
     fn flush_all(&mut self) -> io::Result<()> {
         flush_past_signals(self)
+    }
+}
+
+/// It writes nothing, and never fails.
+impl Sink for io::Sink {
+    ghost may_have_failed = { λ _. false };
+
+    fn write_some(&mut self, bytes: &[u8]) -> io::Result<usize> {
+        self.write(bytes)
+    }
+
+    fn flush_all(&mut self) -> io::Result<()> {
+        self.flush()
     }
 }
 

@@ -17,7 +17,8 @@ use Rattle.pool_places.specs.declared.place_counts.PlaceCounts.{PlaceCounts}
 use Rattle.pool_places.specs.Changes.{IdsBelow as RecordsBelow}
 use Rattle.pool_places.specs.Counts.{IsCounts}
 use Rattle.pool_places.specs.RepInvariant.{RepInvariant, IsWithin}
-use Rattle.pool_places.specs.Overdue.{IsBound}
+use Rattle.pool_places.specs.declared.last_uses.LastUses.{LastUses}
+use Rattle.pool_places.specs.LastUses.{AreLastUses}
 use Rattle.pool_places.specs.PlacesModel.{PlacesModel, records_in, without, PlacesInvariant}
 use Rattle.pool_places.specs.Stored.{place_of, place_at, objects_of, IndexInvariant, QueueInvariant}
 use Rattle.pool_places.proofs.Found.{Found, set_kept, well_formed_set}
@@ -111,9 +112,9 @@ module _ {T : Type 0} where
   pub kept_is : (rack rack2 : SlotsModel T) (pairs : List Pair) (i key : ℕ) (r : Record) (p : Item T) → Reads rack pairs i key r → Sets rack rack2 key (Some p) → p.known.id ≡ r.id → objects_of rack2 pairs ≡ set (objects_of rack pairs) (spot i (objects_of rack pairs)) (place_of p)
   kept_is rack rack2 pairs i key r p reads sets same = kept_turned rack rack2 pairs i key _ p reads.tied (turns rack rack2 pairs i key r p reads sets same) ∙ sym (set_kept (λ x. place_of p) (here rack pairs i key r reads))
 
-  pub kept_after : (rack rack2 : SlotsModel T) (pairs : List Pair) (i key : ℕ) (r : Record) (p : Item T) (counts : PlaceCounts) (from : Option ℕ) (least : ℕ) → Reads rack pairs i key r → Sets rack rack2 key (Some p) → p.known.id ≡ r.id → is_some p.value ≡ is_idle p.known.phase
-      → IsCounts counts (records_in (set (objects_of rack pairs) (spot i (objects_of rack pairs)) (place_of p))) → QueueInvariant rack2 → IsWithin rack2.queue from → IsBound least (records_in (set (objects_of rack pairs) (spot i (objects_of rack pairs)) (place_of p))) → RepInvariant rack2 pairs counts from least
-  kept_after rack rack2 pairs i key r p counts from least reads sets same valued counted line within bound =
+  pub kept_after : (rack rack2 : SlotsModel T) (pairs : List Pair) (i key : ℕ) (r : Record) (p : Item T) (counts : PlaceCounts) (from : Option ℕ) (uses : LastUses) → Reads rack pairs i key r → Sets rack rack2 key (Some p) → p.known.id ≡ r.id → is_some p.value ≡ is_idle p.known.phase
+      → IsCounts counts (records_in (set (objects_of rack pairs) (spot i (objects_of rack pairs)) (place_of p))) → QueueInvariant rack2 → IsWithin rack2.queue from → AreLastUses uses (records_in (set (objects_of rack pairs) (spot i (objects_of rack pairs)) (place_of p))) → RepInvariant rack2 pairs counts from uses
+  kept_after rack rack2 pairs i key r p counts from uses reads sets same valued counted line within last =
       let is = kept_is rack rack2 pairs i key r p reads sets same in
       record {
         well_formed = subst PlacesInvariant (sym is) (well_formed_set (place_of p) (here rack pairs i key r reads) same valued);
@@ -121,7 +122,7 @@ module _ {T : Type 0} where
         tied = tied_turned rack rack2 pairs i key _ p reads.tied (turns rack rack2 pairs i key r p reads sets same);
         line = line;
         remembered = within;
-        bound = subst (λ ps. IsBound least (records_in ps)) (sym is) bound;
+        last_uses = subst (λ ps. AreLastUses uses (records_in ps)) (sym is) last;
       }
 
   -- ---- an object is added
@@ -221,14 +222,14 @@ module _ {T : Type 0} where
   follows_known rack key r line known = line.follows key _ (item_known rack key r known)
 
   -- more room changes nothing
-  pub kept_reserved : (rack : SlotsModel T) (pairs : List Pair) (counts : PlaceCounts) (from : Option ℕ) (least n : ℕ) → RepInvariant rack pairs counts from least → RepInvariant (record rack { room = n }) pairs counts from least
-  kept_reserved rack pairs counts from least n kept = record {
+  pub kept_reserved : (rack : SlotsModel T) (pairs : List Pair) (counts : PlaceCounts) (from : Option ℕ) (uses : LastUses) (n : ℕ) → RepInvariant rack pairs counts from uses → RepInvariant (record rack { room = n }) pairs counts from uses
+  kept_reserved rack pairs counts from uses n kept = record {
     well_formed = kept.well_formed;
     counted = kept.counted;
     tied = record { ascending = kept.tied.ascending; there = kept.tied.there; back = kept.tied.back };
     line = record { present = kept.line.present; follows = kept.line.follows; ascends = kept.line.ascends };
     remembered = kept.remembered;
-    bound = kept.bound;
+    last_uses = kept.last_uses;
   }
 
   -- slots of which only the queue may have changed

@@ -2,6 +2,7 @@
 #![tactic(auto)]
 
 mod keys;
+mod last_uses;
 mod overdue;
 mod phase_tests;
 mod place;

@@ -40,6 +40,7 @@ impl PlaceCounts {
     }
 
     /// Counts one more object.
+    #[inline(always)]
     pub(crate) fn add(&mut self, phase: Phase)
         requires { IsSmall self.old }
         ensures { HasOneMore self.old self.new phase }
@@ -53,6 +54,7 @@ impl PlaceCounts {
     }
 
     /// Counts one object fewer.
+    #[inline(always)]
     pub(crate) fn remove(&mut self, phase: Phase)
         requires { HasOne self.old phase }
         ensures { HasOneMore self.new self.old phase }

@@ -9,11 +9,12 @@ ghost use Rattle.pool_journal.specs.declared.record.Record.{Record as Known};
 ghost use Rattle.pool_places.specs.After.{is_after};
 ghost use Rattle.pool_places.specs.Changes.{with_changed, without_id, new_record, phase_set, lent_at, used_at, parked_at, opens_as, sets_to, takes_to, IdsBelow, IsFreePosition, IsInPhase, QueueBelow};
 ghost use Rattle.pool_places.specs.Counts.{is_adding, max_remaining, weight_of, owed_for};
-ghost use Rattle.pool_places.specs.Overdue.{is_lent, overdue};
+ghost use Rattle.pool_places.specs.Overdue.{is_lent, overdue, IsBound};
 ghost use Rattle.pool_places.specs.PlacesModel.{records_in, value_in, changed, without, new_place, to_phase, to_lent, to_used, to_idle, to_kept, to_taken, PlacesInvariant};
 
 use crate::keys::key_under;
-use crate::overdue::{earlier, first_overdue, last_use, least_use, overdue_count};
+use crate::last_uses::{LastUses, earliest_use, list_anew, passed_at};
+use crate::overdue::{earlier, first_overdue, last_use, overdue_count};
 use crate::phase_tests::is_queued_phase;
 use crate::place_counts::PlaceCounts;
 use crate::queue::{change, enter, first_wanted, last_wanted, leave, start_after};
@@ -32,10 +33,12 @@ const MOST_PLACES: usize = 1 << 60;
 /// No object is moved when another is added or freed. `present`, `queued` and `counts` take the same time for every n.
 /// `first_idle` and `last_idle` step past the objects under test at their end of the queue. `next_idle_after` searches
 /// from the object that `start_search_at` named last, or from the first one. Over a run around the queue it takes the
-/// same time on average, even if objects leave. A bound is stored: a time before which no lent object was last used.
-/// `count_overdue` and `least_overdue` walk over all objects if the bound is at least `timeout` ago, and otherwise take
-/// the same time for every n. `refresh_abandoned_bound` walks if the bound is at least `timeout` ago, and makes it
-/// exact.
+/// same time on average, even if objects leave. The last uses of lent objects are listed in order from time to time, and
+/// the earliest use since then is stored. `count_overdue` and `least_overdue` walk over all objects if one is abandoned,
+/// or if that use is at least `timeout` ago. Otherwise they step past the listed uses after which the object was used
+/// again or returned. `refresh_abandoned_bound` steps past these for good. It walks and lists anew if that use is at least
+/// `timeout` ago: by then each listed object was used again, returned or abandoned, if times never fall. So over many
+/// calls a removal that finds nothing takes logarithmic time on average for each use.
 #[derive(Drop)]
 pub struct Places<T> {
     // The objects under keys, and the queue through them.
@@ -46,8 +49,8 @@ pub struct Places<T> {
     counts: PlaceCounts,
     // The key of the object in the queue from which the next one is searched for.
     remembered: Option<usize>,
-    // A time, in milliseconds, before which no lent object was last used.
-    least_used: u64,
+    // When lent objects were last used.
+    uses: LastUses,
 }
 
 impl<T> Model for Places<T> {
@@ -64,7 +67,7 @@ impl<T> Model for Places<T> {
     } };
 
     ghost invariant = { λ a. RepInvariant a.slots a.index.pairs a.counts a.remembered
-        a.least_used };
+        a.uses };
 }
 
 impl<T> Places<T> {
@@ -77,7 +80,11 @@ impl<T> Places<T> {
             index: SortedIndex::new(alloc),
             counts: PlaceCounts::none(),
             remembered: None,
-            least_used: u64::MAX,
+            uses: LastUses {
+                recent: u64::MAX,
+                order: Vec::new(alloc),
+                passed: 0,
+            },
         }
     }
 
@@ -96,6 +103,7 @@ impl<T> Places<T> {
     }
 
     /// Returns the record of an object, if it is present.
+    #[inline(always)]
     pub fn find(&self, id: u64) -> Option<Record>
         ensures value { result ≡ record_in (records_in self.now.objects) id }
         ensures well_formed { PlacesInvariant self.now.objects }
@@ -180,7 +188,7 @@ impl<T> Places<T> {
             AllByRecursion (λ r. i ≤ r.id) (overdue at timeout (records_in self.now.objects))) }
         ensures lent { IfSome result (λ i. IsInPhase (records_in self.now.objects) i phases.Lent) }
     {
-        if at.saturating_sub(self.least_used) < timeout {
+        if at.saturating_sub(self.earliest_use(at, timeout)) < timeout {
             return None;
         }
         first_overdue(&self.slots, &self.index, at, timeout)
@@ -191,23 +199,35 @@ impl<T> Places<T> {
     pub fn count_overdue(&self, at: u64, timeout: u64) -> u64
         ensures { result ≡ length (overdue at timeout (records_in self.now.objects)) }
     {
-        if at.saturating_sub(self.least_used) < timeout {
+        if at.saturating_sub(self.earliest_use(at, timeout)) < timeout {
             return 0;
         }
         overdue_count(&self.slots, &self.index, at, timeout)
     }
 
-    /// Computes the earliest time at which a lent object was last used, if one may be abandoned at time `at` with this
-    /// `timeout` (both in milliseconds). The objects are unchanged.
+    // Returns a time before which no lent object was last used. It is later than `timeout` before `at` if that is known.
+    fn earliest_use(&self, at: u64, timeout: u64) -> u64
+        ensures { IsBound result (records_in self.now.objects) }
+    {
+        let passed = passed_at(&self.slots, &self.index, &self.uses, at, timeout);
+        earliest_use(&self.uses, passed)
+    }
+
+    /// Lists the times at which lent objects were last used, if it is not known otherwise that none is abandoned at time
+    /// `at` with this `timeout` (both in milliseconds). The objects are unchanged. If an allocation fails, only the
+    /// earliest time is stored.
     pub fn refresh_abandoned_bound(&mut self, at: u64, timeout: u64)
         ensures { self.new ≡ self.old }
     {
-        if at.saturating_sub(self.least_used) >= timeout {
-            self.least_used = least_use(&self.slots, &self.index);
+        self.uses.passed = passed_at(&self.slots, &self.index, &self.uses, at, timeout);
+        if at.saturating_sub(self.uses.recent) < timeout {
+            return;
         }
+        list_anew(&self.slots, &self.index, &mut self.uses);
     }
 
     /// Returns the number of objects of each kind, and of their outstanding entries.
+    #[inline(always)]
     pub fn counts(&self) -> PlaceCounts
         ensures present { result.present ≡ length self.now.objects }
         ensures queue { result.queue ≡ queue_length (records_in self.now.objects) }
@@ -286,7 +306,7 @@ impl<T> Places<T> {
         enter(&mut self.slots, &mut self.remembered, key, known);
         self.index.push(known.id, key);
         self.counts.add(known.phase);
-        self.least_used = earlier(self.least_used, last_use(known));
+        self.uses.recent = earlier(self.uses.recent, last_use(known));
     }
 
     /// Adds an object that was just created, in the memory that was reserved. Its phase is `Readying` or `Adding`.
@@ -354,9 +374,9 @@ impl<T> Places<T> {
     {
         let key = key_under(&self.index, id);
         let known = self.slots.known(key);
-        self.counts.remove(known.phase);
+        self.counts.remove(Phase::Readying);
         self.counts.add(Phase::Lent);
-        self.least_used = earlier(self.least_used, at);
+        self.uses.recent = earlier(self.uses.recent, at);
         let lent = Record {
             phase: Phase::Lent,
             lent: at,
@@ -365,6 +385,30 @@ impl<T> Places<T> {
             ..known
         };
         change(&mut self.slots, &mut self.remembered, key, known, lent);
+    }
+
+    /// Moves a lent object to `Returning`.
+    pub fn set_returned(&mut self, id: u64)
+        requires present { IsInPhase (records_in self.old.objects) id phases.Lent }
+        ensures objects { self.new.objects
+            ≡ changed id (to_phase phases.Returning) self.old.objects }
+        ensures records { records_in self.new.objects
+            ≡ with_changed id (phase_set phases.Returning) (records_in self.old.objects) }
+        ensures values { (j : ℕ) → value_in self.new.objects j ≡ value_in self.old.objects j }
+        ensures owed { owed_for (records_in self.new.objects) + max_remaining phases.Lent
+            ≡ owed_for (records_in self.old.objects) + max_remaining phases.Returning }
+        ensures spare_capacity { self.old.spare_capacity ≤ self.new.spare_capacity }
+    {
+        let key = key_under(&self.index, id);
+        let known = self.slots.known(key);
+        self.counts.remove(Phase::Lent);
+        self.counts.add(Phase::Returning);
+        let returned = Record {
+            phase: Phase::Returning,
+            is_new: false,
+            ..known
+        };
+        change(&mut self.slots, &mut self.remembered, key, known, returned);
     }
 
     /// Records that a lent object is used at time `at` (milliseconds).
@@ -379,7 +423,7 @@ impl<T> Places<T> {
     {
         let key = key_under(&self.index, id);
         let known = self.slots.known(key);
-        self.least_used = earlier(at, self.least_used);
+        self.uses.recent = earlier(at, self.uses.recent);
         let used = Record { used: at, ..known };
         change(&mut self.slots, &mut self.remembered, key, known, used);
     }
@@ -438,7 +482,7 @@ impl<T> Places<T> {
         let key = key_under(&self.index, id);
         let known = self.slots.known(key);
         let value = self.slots.take(key);
-        self.counts.remove(known.phase);
+        self.counts.remove(Phase::Idle);
         self.counts.add(phase);
         let taken = Record {
             phase,
@@ -447,6 +491,35 @@ impl<T> Places<T> {
         };
         change(&mut self.slots, &mut self.remembered, key, known, taken);
         value
+    }
+
+    /// Removes the value of an idle object and returns it. The object leaves the queue, in phase `Readying`.
+    pub fn take_ready(&mut self, id: u64) -> T
+        requires present { IsInPhase (records_in self.old.objects) id phases.Idle }
+        ensures objects { self.new.objects
+            ≡ changed id (to_taken phases.Readying) self.old.objects }
+        ensures records { records_in self.new.objects
+            ≡ with_changed id (phase_set phases.Readying) (records_in self.old.objects) }
+        ensures value { value_in self.old.objects id ≡ Some result }
+        ensures given { value_in self.new.objects id ≡ None }
+        ensures others { (j : ℕ) → j ≢ id →
+            value_in self.new.objects j ≡ value_in self.old.objects j }
+        ensures owed { owed_for (records_in self.new.objects) + max_remaining phases.Idle
+            ≡ owed_for (records_in self.old.objects) + max_remaining phases.Readying }
+        ensures spare_capacity { self.old.spare_capacity ≤ self.new.spare_capacity }
+    {
+        let key = key_under(&self.index, id);
+        let known = self.slots.known(key);
+        let taken = self.slots.take(key);
+        self.counts.remove(Phase::Idle);
+        self.counts.add(Phase::Readying);
+        let readied = Record {
+            phase: Phase::Readying,
+            is_new: false,
+            ..known
+        };
+        change(&mut self.slots, &mut self.remembered, key, known, readied);
+        taken
     }
 
     /// Stores the value of an object under an idle test, so that it is idle again. It keeps its position in the queue.
@@ -465,7 +538,7 @@ impl<T> Places<T> {
         let key = key_under(&self.index, id);
         let known = self.slots.known(key);
         self.slots.put(key, value);
-        self.counts.remove(known.phase);
+        self.counts.remove(Phase::Testing);
         self.counts.add(Phase::Idle);
         let kept = Record {
             phase: Phase::Idle,

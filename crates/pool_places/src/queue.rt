@@ -13,6 +13,7 @@ use pool_journal::{Phase, Record};
 use pool_slots::Slots;
 
 // The key that is remembered after an object leaves the queue: the one before it, if its own key was remembered.
+#[inline(always)]
 fn passed_on<T>(slots: &Slots<T>, remembered: Option<usize>, key: usize) -> Option<usize>
     requires queued { is_in key slots.now.queue ≡ true }
     requires remembered { IsWithin slots.now.queue remembered }
@@ -27,6 +28,7 @@ fn passed_on<T>(slots: &Slots<T>, remembered: Option<usize>, key: usize) -> Opti
 }
 
 /// Removes an object from the queue, if it is in it and its new phase isn't one of the queue.
+#[inline(always)]
 pub(crate) fn leave<T>(
     slots: &mut Slots<T>,
     remembered: &mut Option<usize>,
@@ -48,6 +50,7 @@ pub(crate) fn leave<T>(
 }
 
 /// Replaces the record of an object. The object leaves the queue if its new phase isn't one of the queue.
+#[inline(always)]
 pub(crate) fn change<T>(
     slots: &mut Slots<T>,
     remembered: &mut Option<usize>,

@@ -1,15 +1,16 @@
 //! A text on one line, with its control characters escaped as in TOML.
-ghost use Rattle.std.specs.Prelude.{◌≡◌, ◌<◌, true, Some};
+ghost use Rattle.std.specs.Prelude.{◌≡◌, ◌<◌, true, Some, chars};
 ghost use Rattle.std.specs.Fmt.{WritesOnOk, digit_glyph};
-ghost use Rattle.std.specs.List.{flat_map, list_any};
+ghost use Rattle.std.specs.List.{flat_map};
 ghost use Rattle.toml_writer.specs.Text.{escape_letter, escape_text};
 ghost use Rattle.pool_settings.specs.Escaped as Spec;
 
 use std::fmt;
 use std::fmt::{Formatter, Write};
 
-/// A text as it is printed on one line. If it has a control character (U+0000 to U+001F, U+007F), each control
-/// character and each backslash is printed as in a basic string of TOML (`\n`, `\u001B`, `\\`). All else is unchanged.
+/// A text as it is printed on one line. If it has a control character (U+0000 to U+001F, U+007F to U+009F), each
+/// control character and each backslash is printed as in a basic string of TOML (`\n`, `\u001B`, `\\`). All else is
+/// unchanged.
 #[derive(Clone, Copy, Debug)]
 pub struct Escaped<'a> {
     text: &'a str,
@@ -29,7 +30,7 @@ impl fmt::Display for Escaped<'_> {
     ghost output = { λ e. Some (Spec.shown e) };
 
     fn fmt<W: Write>(&self, f: &mut Formatter<W>) -> fmt::Result {
-        if has_control(self.text.as_bytes()) {
+        if has_control(self.text) {
             write_escaped(f, self.text)
         } else {
             f.write_str(self.text)
@@ -37,43 +38,38 @@ impl fmt::Display for Escaped<'_> {
     }
 }
 
-fn has_control(text: &[u8]) -> bool
-    ensures { result ≡ list_any Spec.is_control text.now }
+fn has_control(text: &str) -> bool
+    ensures { result ≡ Spec.has_control text.now }
 {
-    text.iter().any(|byte| is_control(*byte))
-}
-
-fn is_control(byte: u8) -> bool
-    ensures { result ≡ Spec.is_control byte }
-{
-    byte < 32 || byte == 127
-}
-
-fn needs_escape(byte: u8) -> bool
-    ensures { result ≡ Spec.needs_escape byte }
-{
-    is_control(byte) || byte == b'\\'
+    for c in text.chars() {
+        if c.is_control() {
+            return true;
+        }
+    }
+    false
 }
 
 /// Writes the text with its control characters and backslashes escaped.
 fn write_escaped<W: Write>(f: &mut Formatter<W>, text: &str) -> fmt::Result
-    ensures { WritesOnOk W.write_str_gives f.old result (flat_map Spec.escape text.now) f.new }
+    ensures { WritesOnOk W.write_str_gives f.old result (flat_map Spec.escape (chars text.now)) f.new }
 {
-    let bytes = text.as_bytes();
-    let mut start = 0;
-    'bytes: for at in 0..bytes.len() {
-        let byte = bytes[at];
-        if needs_escape(byte) {
-            f.write_str(&text[start..at])?;
-            write_escape(f, byte)?;
-            start = at + 1;
-        }
+    for c in text.chars() {
+        write_one(f, c)?;
     }
-    f.write_str(&text[start..])
+    Ok(())
+}
+
+fn write_one<W: Write>(f: &mut Formatter<W>, c: char) -> fmt::Result
+    ensures { WritesOnOk W.write_str_gives f.old result (Spec.escape c) f.new }
+{
+    if c.is_control() || c == '\\' {
+        write_escape(f, c as u32 as u8)
+    } else {
+        f.write_char(c)
+    }
 }
 
 fn write_escape<W: Write>(f: &mut Formatter<W>, byte: u8) -> fmt::Result
-    requires { byte < 128 }
     ensures { WritesOnOk W.write_str_gives f.old result (escape_text byte) f.new }
 {
     let letter = letter_of(byte);

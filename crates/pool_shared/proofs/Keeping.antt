@@ -41,7 +41,7 @@ alone s i me legal ends =
       ended =
           λ k x at is.
           let early = front_has ends.found (e ∷ []) k x at in
-          laws.from_empty.lent_in_turn i k (length ends.found) x e early.1 (subst (λ J. slice_get J k ≡ Some x) (sym ends.last_seen) early.0)
+          laws.lasting.lent_in_turn i k (length ends.found) x e early.1 (subst (λ J. slice_get J k ≡ Some x) (sym ends.last_seen) early.0)
           (subst (λ J. slice_get J (length ends.found) ≡ Some e) (sym ends.last_seen) (at_seam ends.found [] e).0) is there;
     }
 

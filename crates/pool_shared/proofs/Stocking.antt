@@ -1,7 +1,8 @@
 -- The trace of additions, and of a fill.
-use Rattle.std.proofs.Common.{◌≡◌, ℕ, ◌+◌, ◌^◌, ◌<◌, ◌≤◌, ◌==◌, Bool, true, false, List, [], ◌∷◌, length, Some, Result, Ok, Err, length-append, refl, sym, ap, subst, arith}
+use Rattle.std.proofs.Common.{◌≡◌, ◌⊎◌, inl, inr, ℕ, ◌+◌, ◌^◌, ◌<◌, ◌≤◌, ◌==◌, if◌then◌else◌, Bool, true, false, List, [], ◌∷◌, length, Some, Result, Ok, Err, length-append, refl, sym, ap, ◌∙◌, subst, arith}
 use Rattle.std.specs.Prelude.{not, OnOk}
 use Rattle.std.proofs.lemmas.List.Filters.{length-filter_both}
+use Rattle.std.proofs.lemmas.List.Sums.{sum_by-cons, sum_by-append, count_by-le-length}
 use Rattle.pool_journal.specs.declared.entry.Entry.{Entry}
 use Rattle.pool_journal.specs.declared.input.Input.{Input}
 use Rattle.pool_journal.specs.declared.input.Input.TheVariants.{Add, Fill, Added, Destroyed}
@@ -12,7 +13,10 @@ use Rattle.pool_journal.specs.declared.answer.Answer.{Answer}
 use Rattle.pool_journal.specs.declared.answer.Answer.TheVariants as answers
 use Rattle.pool_settings.specs.declared.settings.Settings.{Settings}
 use Rattle.pool_core.specs.Legal.{entry_of}
-use Rattle.pool_journal.specs.Entries.{move_of_entry}
+use Rattle.pool_journal.specs.declared.answer.Cause.TheVariants as causes
+use Rattle.pool_journal.specs.Entries.{move_of_entry, is_parked_answer}
+use Rattle.pool_stats.specs.Answers.{count_answers}
+use Rattle.pool_stats.specs.Ended.{one_more_if}
 use Rattle.pool_history.specs.CellInvariant.{entries_with_number}
 use Rattle.pool_history.specs.CallerStates.{CallerState, Advances}
 use Rattle.pool_shared.specs.declared.faults.Addition.{Addition}
@@ -22,17 +26,18 @@ use Rattle.pool_shared.specs.declared.faults.AddFault.TheVariants as faults
 use Rattle.pool_shared.specs.declared.faults.PoolFault.{PoolFault}
 use Rattle.pool_shared.specs.declared.faults.PoolFault.TheVariants as pool_faults
 use Rattle.pool_lock.specs.Sections.{OwnsObject, AppendsAnswer}
+use Rattle.pool_calls.specs.declared.plan.Plan.{Plan}
 use Rattle.pool_calls.specs.Turns.{Turn}
-use Rattle.pool_shared.specs.Traces.{turn_of, run_stages, Trace, EndsWithOwn}
+use Rattle.pool_shared.specs.Traces.{turn_of, run_stages, AllExpected, Trace, EndsWithOwn}
 use Rattle.pool_shared.specs.TraceToResult.{IsRoomFault}
 use Rattle.pool_shared.specs.Faults.{add_fault}
 use Rattle.pool_calls.specs.AddRules as addition
 use Rattle.pool_calls.specs.AddRules.{makes, after_making}
-use Rattle.pool_calls.specs.FillRules.{Stage, asks, adds, adding, through, failed, contradicted, one_more, parked_of, after_asking, next, IsExpected}
+use Rattle.pool_calls.specs.FillRules.{Stage, asks, adds, adding, through, failed, contradicted, count_of, after_asking, next, IsExpected}
 use Rattle.pool_shared.specs.Plans.{plan_of}
 use Rattle.pool_shared.specs.Adds.{ending, FinalState, AddEnds, AddSpec, IsAddFaultFrom, IsFailure, IsStocked}
 use Rattle.pool_shared.specs.Fills as fills
-use Rattle.pool_shared.specs.Fills.{FillEnds, FillsFrom, FillSpec, FillStep}
+use Rattle.pool_shared.specs.Fills.{FillEnds, FillsFrom, FillSpec, FillStep, parked_by}
 use Rattle.pool_shared.proofs.Traces.{trace_by, trace_on, trace_destroyed}
 use Rattle.pool_shared.proofs.TracesToResults.{row_at, row_none, row_on, trace_along}
 
@@ -142,39 +147,79 @@ module _ (s : Settings) (n : ℕ) where
   refused_turn {E} pool_faults.OutOfMemory before after same why = row_none (IsExpected (plan_of s)) next (FillEnds {E = E} s) (asks n) (Err faults.OutOfMemory) before after same ((n, refl), why)
   refused_turn pool_faults.Closed before after same why = absurd why.1
 
--- one more object, unless the number no longer fits
-one_more_at_most : (n : ℕ) → one_more n ≤ n + 1
-one_more_at_most n = omega arith
+abbrev is_contradicted : Stage → Bool
+is_contradicted (contradicted n a) = true
+is_contradicted _ = false
 
-parked_adding : (n : ℕ) (stage : addition.Stage) → parked_of (adding n stage) ≤ n + 1
-parked_adding n addition.parked = one_more_at_most n
-parked_adding n (addition.gone outcomes.Good) = omega arith
-parked_adding n (addition.gone _) = omega arith
-parked_adding n _ = omega arith
+-- a fill that has parked this many counts the answer if it is Parked, unless the pool gives that answer to no fill
+abbrev Counts : ℕ → Answer → Stage → Type 0
+Counts n a after = (is_contradicted after ≡ true) ⊎ (count_of after ≡ one_more_if (is_parked_answer a) n)
 
-parked_asking : (n : ℕ) (a : Answer) → parked_of (after_asking n a) ≤ n + 1
-parked_asking n (answers.Make i) = omega arith
-parked_asking n answers.Enough = omega arith
-parked_asking n answers.NoPlace = omega arith
-parked_asking n _ = omega arith
+counted_asking : (n : ℕ) (a : Answer) → Counts n a (after_asking n a)
+counted_asking n (answers.Make i) = inr (omega arith)
+counted_asking n answers.Enough = inr (omega arith)
+counted_asking n answers.NoPlace = inr (omega arith)
+counted_asking n _ = inl refl
 
--- each entry parks at most one object
-parked_next : (stage : Stage) (t : Turn) → parked_of (next stage t) ≤ parked_of stage + 1
-parked_next (asks n) t = parked_asking n t.answer
-parked_next (adds n stage) t = parked_adding n (addition.next stage t)
-parked_next (through n) t = omega arith
-parked_next (failed n o) t = omega arith
-parked_next (contradicted n a) t = omega arith
+counted_placed : (n : ℕ) (a : Answer) → Counts n a (adding n (addition.after_asking a))
+counted_placed n (answers.Make i) = inr (omega arith)
+counted_placed n answers.NoPlace = inr (omega arith)
+counted_placed n (answers.Refused causes.Closed) = inr (omega arith)
+counted_placed n (answers.Refused _) = inl refl
+counted_placed n _ = inl refl
 
-parked_traced : (stage : Stage) (es : List Entry) → parked_of (run_stages next stage es) ≤ parked_of stage + length es
-parked_traced stage [] = omega arith
-parked_traced stage (e ∷ es) = omega (arith, parked_next stage (turn_of e), parked_traced (next stage (turn_of e)) es)
+counted_made : (n i : ℕ) (o : Outcome) (a : Answer) → Counts n a (adding n (after_making i o a))
+counted_made n i outcomes.Good answers.Parked = inr refl
+counted_made n i outcomes.Good answers.Destroy = inr (omega arith)
+counted_made n i outcomes.Good _ = inl refl
+counted_made n i outcomes.MakeFailed answers.Freed = inr (omega arith)
+counted_made n i outcomes.MakeFailed _ = inl refl
+counted_made n i _ answers.Destroy = inr (omega arith)
+counted_made n i _ _ = inl refl
 
--- a fill has parked at most one object per entry that it appended
+counted_reported : (n i : ℕ) (input : Input) (a : Answer) → Counts n a (adding n (addition.after_report i input a))
+counted_reported n i (Added j o) a = counted_made n i o a
+counted_reported n i _ a = inl refl
+
+counted_freed : (n : ℕ) (o : Outcome) (a : Answer) → Counts n a (adding n (addition.after_destroying o a))
+counted_freed n outcomes.Good answers.Freed = inr (omega arith)
+counted_freed n _ answers.Freed = inr (omega arith)
+counted_freed n o _ = inl refl
+
+counted_adding : (p : Plan) (n : ℕ) (stage : addition.Stage) (t : Turn) → addition.IsExpected p stage t.input → Counts n t.answer (adding n (addition.next stage t))
+counted_adding p n addition.asks t due = counted_placed n t.answer
+counted_adding p n (makes i) t due = counted_reported n i t.input t.answer
+counted_adding p n (addition.destroys i o) t due = counted_freed n o t.answer
+counted_adding p n _ t due = absurd due
+
+counted_next : (p : Plan) (stage : Stage) (t : Turn) → IsExpected p stage t.input → Counts (count_of stage) t.answer (next stage t)
+counted_next p (asks n) t due = counted_asking n t.answer
+counted_next p (adds n stage) t due = counted_adding p n stage t due
+counted_next p _ t due = absurd due
+
+contradicted_stays : (stage : Stage) (es : List Entry) → is_contradicted stage ≡ true → is_contradicted (run_stages next stage es) ≡ true
+contradicted_stays stage [] is = is
+contradicted_stays (contradicted n a) (e ∷ es) is = contradicted_stays (contradicted n a) es is
+contradicted_stays _ (e ∷ es) is = absurd (cc is)
+
+counted_run : (p : Plan) (stage : Stage) (es : List Entry) → AllExpected (IsExpected p) next stage es → is_contradicted (run_stages next stage es) ≡ false
+    → count_of (run_stages next stage es) ≡ count_of stage + count_answers is_parked_answer es
+counted_run p stage [] due fine = omega arith
+counted_run p stage (e ∷ es) due fine =
+    elim (counted_next p stage (turn_of e) due.0) [
+      | inl bad ↦ absurd (cc (sym (contradicted_stays (next stage (turn_of e)) es bad) ∙ fine))
+      | inr one ↦ omega (arith, one, sum_by-cons (λ (x : Entry). if is_parked_answer x.answer then 1 else 0) e es, counted_run p (next stage (turn_of e)) es due.1 fine)
+    ]
+
+-- the number of a fill is that of the Parked answers to it
+counted : (s : Settings) (to : Stage) (first now : CallerState) → is_contradicted to ≡ false → Trace (IsExpected (plan_of s)) next (asks 0) first now to → parked_by now ≡ parked_by first + count_of to
+counted s to first now fine w =
+    let run = counted_run (plan_of s) (asks 0) w.es w.due (ap is_contradicted w.comes ∙ fine) in
+    omega (arith, run, ap count_of w.comes, ap (count_answers is_parked_answer) w.made, sum_by-append (λ (x : Entry). if is_parked_answer x.answer then 1 else 0) first.appended w.es)
+
+-- it is at most the number of the entries that the caller appended
 pub bounded_parked : (s : Settings) (n : ℕ) (first now : CallerState) → Trace (IsExpected (plan_of s)) next (asks 0) first now (asks n) → n ≤ length now.appended
-bounded_parked s n first now w =
-    let parked : parked_of (run_stages next (asks 0) w.es) ≡ n = ap parked_of w.comes in
-    omega (arith, parked, parked_traced (asks 0) w.es, ap length w.made, length-append first.appended w.es)
+bounded_parked s n first now w = omega (arith, counted s (asks n) first now refl w, count_by-le-length (λ (x : Entry). is_parked_answer x.answer) now.appended)
 
 own_within : (n : ℕ) (J : List Entry) → length (entries_with_number n J) ≤ length J
 own_within n J = omega (arith, length-filter_both (λ (e : Entry). e.caller == n) (λ e. not (e.caller == n)) (λ e. refl) J)
@@ -199,16 +244,17 @@ module _ (s : Settings) (n reported : ℕ) (first now after : CallerState) (repo
   turned_to : (a b : Addition) → a ≡ b → Trace (IsExpected (plan_of s)) next (asks n) now after (fills.turned n a) → Trace (IsExpected (plan_of s)) next (asks 0) first after (fills.turned n b)
   turned_to a b is turn = trace_on (IsExpected (plan_of s)) next (asks 0) (asks n) (fills.turned n b) first now after w (subst (λ x. Trace (IsExpected (plan_of s)) next (asks n) now after (fills.turned n x)) is turn)
 
-  pub one_parked : (a : Addition) (more : ℕ) → a ≡ additions.Idle → more ≡ reported + 1 → n + 1 < 2 ^ 64 → Trace (IsExpected (plan_of s)) next (asks n) now after (fills.turned n a) → IsFilling s more first after
-  one_parked a more is counted bounded turn =
-      let fits : one_more n ≡ n + 1 = omega (arith, bounded) in
-      (one_more n, omega (arith, counted, reporting, fits), turned_to a additions.Idle is turn)
+  pub one_parked : (a : Addition) (more : ℕ) → a ≡ additions.Idle → more ≡ reported + 1 → Trace (IsExpected (plan_of s)) next (asks n) now after (fills.turned n a) → IsFilling s more first after
+  one_parked a more is one turn = (n + 1, omega (arith, one, reporting), turned_to a additions.Idle is turn)
 
   pub one_lost : (a : Addition) → a ≡ additions.Destroyed → Trace (IsExpected (plan_of s)) next (asks n) now after (fills.turned n a) → IsFilling s reported first after
   one_lost a is turn = (n, reporting, turned_to a additions.Destroyed is turn)
 
   pub all_filled : {E : Type 0} (a : Addition) → a ≡ additions.NoPlace → Trace (IsExpected (plan_of s)) next (asks n) now after (fills.turned n a) → EndsWithOwn after → FillSpec {E = E} s (Ok reported) first after
   all_filled {E} a is turn ends = row_at (IsExpected (plan_of s)) next (FillEnds {E = E} s) (asks 0) (through n) (Ok reported) first after (turned_to a additions.NoPlace is turn) (ap through (sym reporting), ends)
+
+  pub all_counted : (a : Addition) → a ≡ additions.NoPlace → Trace (IsExpected (plan_of s)) next (asks n) now after (fills.turned n a) → parked_by after ≡ parked_by first + reported
+  all_counted a is turn = omega (arith, reporting, counted s (through n) first after refl (turned_to a additions.NoPlace is turn))
 
   pub filled_part : {E : Type 0} (f : AddFault E) → FillsFrom s (asks n) (Err f) now after → FillSpec s (Err f) first after
   filled_part f turn = row_on (IsExpected (plan_of s)) next (FillEnds s) (asks 0) (asks n) (Err f) first now after w turn

@@ -1,10 +1,12 @@
 -- The trace of a fill, by the rules of fills, and its result.
-use Rattle.std.specs.Prelude.{◌≡◌, ℕ, Result, Ok, Err}
+use Rattle.std.specs.Prelude.{◌≡◌, ℕ, ◌+◌, Result, Ok, Err}
 use Rattle.pool_journal.specs.declared.input.Input.TheVariants.{Fill}
 use Rattle.pool_journal.specs.declared.input.Outcome.{Outcome}
 use Rattle.pool_journal.specs.declared.input.Outcome.TheVariants as outcomes
+use Rattle.pool_journal.specs.Entries.{is_parked_answer}
+use Rattle.pool_stats.specs.Answers.{count_answers}
 use Rattle.pool_settings.specs.declared.settings.Settings.{Settings}
-use Rattle.pool_calls.specs.FillRules.{Stage, asks, through, failed, one_more, next, IsExpected}
+use Rattle.pool_calls.specs.FillRules.{Stage, asks, through, failed, next, IsExpected}
 use Rattle.pool_history.specs.CallerStates.{CallerState}
 use Rattle.pool_shared.specs.declared.faults.Addition.{Addition}
 use Rattle.pool_shared.specs.declared.faults.Addition.TheVariants as additions
@@ -14,6 +16,10 @@ use Rattle.pool_shared.specs.Plans.{plan_of}
 use Rattle.pool_shared.specs.Traces.{Trace, EndsWithOwn}
 use Rattle.pool_shared.specs.TraceToResult.{TraceToResult}
 use Rattle.pool_shared.specs.Adds.{FinalState}
+
+-- the number of Parked answers to a caller
+abbrev pub parked_by : CallerState → ℕ
+parked_by me = count_answers is_parked_answer me.appended
 
 -- a fill that asks
 abbrev pub IsAsking : Stage → Type 0
@@ -48,7 +54,7 @@ FillSpec s result before after = FillsFrom s (asks 0) result before after
 
 -- the stage of a fill after one turn: there was no place, or none was missing, or it continues
 abbrev pub turned : ℕ → Addition → Stage
-turned n additions.Idle = asks (one_more n)
+turned n additions.Idle = asks (n + 1)
 turned n additions.Destroyed = asks n
 turned n additions.NoPlace = through n
 

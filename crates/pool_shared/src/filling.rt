@@ -1,8 +1,8 @@
 //! A fill of the idle queue, in critical sections.
-ghost use Rattle.std.specs.Prelude.{ℕ, ◌+◌, ◌<◌, ◌^◌, length, OnOk, IfErr};
+ghost use Rattle.std.specs.Prelude.{◌≡◌, ℕ, ◌+◌, ◌<◌, ◌^◌, length, IfOk, OnOk, IfErr};
 ghost use Rattle.pool_history.specs.CallerStates.{Advances};
 ghost use Rattle.pool_shared.specs.Adds.{IsAddFaultFrom};
-ghost use Rattle.pool_shared.specs.Fills.{FillStep, FillSpec};
+ghost use Rattle.pool_shared.specs.Fills.{FillStep, FillSpec, parked_by};
 
 use crate::faults::{AddFault, Addition};
 use crate::pool::SharedPool;
@@ -44,6 +44,7 @@ impl<T: Drop, E: Drop, F: Factory<T, E> + Drop, C: Clock + Drop, B: Room> Shared
     pub fn fill<R: Wait>(&self, rt: &R, me: &mut Caller<B>) -> Result<u64, AddFault<E>>
         ensures advances { Advances B.settings me.old me.new }
         ensures spec { FillSpec B.settings result me.old me.new }
+        ensures parked { IfOk result (λ n. parked_by me.new ≡ parked_by me.old + n) }
         ensures fault { IfErr result (IsAddFaultFrom F.from_make F.from_passivate) }
     {
         let mut parked = 0u64;

@@ -7,6 +7,7 @@ use crate::slot::Slot;
 use slab::Slab;
 
 // Makes `after` the successor of `before`, and changes nothing else. If `before` is `None`, `after` is the first key.
+#[inline(always)]
 fn set_after<T>(
     slots: &mut Slab<Slot<T>>,
     first: &mut Option<usize>,
@@ -31,6 +32,7 @@ fn set_after<T>(
 }
 
 // Makes `before` the predecessor of `after`, and changes nothing else. If `after` is `None`, `before` is the last key.
+#[inline(always)]
 fn set_before<T>(
     slots: &mut Slab<Slot<T>>,
     last: &mut Option<usize>,
@@ -70,6 +72,7 @@ pub(crate) fn place_before<T>(
 }
 
 /// Makes `after` the successor of `before` in the queue. `None` is before the first key and after the last one.
+#[inline(always)]
 pub(crate) fn join<T>(
     slots: &mut Slab<Slot<T>>,
     first: &mut Option<usize>,

@@ -38,6 +38,7 @@ impl Links {
         }
     }
 
+    #[inline(always)]
     pub(crate) fn before(&self) -> Option<usize>
         ensures { result ≡ self.now.before }
     {
@@ -48,6 +49,7 @@ impl Links {
         }
     }
 
+    #[inline(always)]
     pub(crate) fn after(&self) -> Option<usize>
         ensures { result ≡ self.now.after }
     {
@@ -58,6 +60,7 @@ impl Links {
         }
     }
 
+    #[inline(always)]
     pub(crate) fn set_before(&mut self, before: Option<usize>)
         ensures { self.new ≡ record self.old { before = before } }
     {
@@ -65,6 +68,7 @@ impl Links {
         self.before = before.unwrap_or(0);
     }
 
+    #[inline(always)]
     pub(crate) fn set_after(&mut self, after: Option<usize>)
         ensures { self.new ≡ record self.old { after = after } }
     {

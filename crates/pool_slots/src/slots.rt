@@ -143,6 +143,7 @@ impl<T> Slots<T> {
     }
 
     /// Returns the record of an object.
+    #[inline(always)]
     pub fn known(&self, key: usize) -> Record
         requires { IsSome (item_at self.now key) }
         ensures { known_at self.now key ≡ Some result }
@@ -151,6 +152,7 @@ impl<T> Slots<T> {
     }
 
     /// Replaces the record of an object.
+    #[inline(always)]
     pub fn set_known(&mut self, key: usize, known: Record)
         requires { IsSome (item_at self.old key) }
         ensures sets { Sets self.old self.new key
@@ -164,6 +166,7 @@ impl<T> Slots<T> {
     }
 
     /// Stores a value for an object that has none.
+    #[inline(always)]
     pub fn put(&mut self, key: usize, value: T)
         requires { IsSomeAnd (item_at self.old key) (λ item. item.value ≡ None) }
         ensures sets { Sets self.old self.new key
@@ -180,6 +183,7 @@ impl<T> Slots<T> {
     }
 
     /// Removes the stored value of an object and returns it.
+    #[inline(always)]
     pub fn take(&mut self, key: usize) -> T
         requires { IsSome (value_at self.old key) }
         ensures value { value_at self.old key ≡ Some result }
@@ -194,6 +198,7 @@ impl<T> Slots<T> {
     }
 
     /// Puts an object at the end of the queue.
+    #[inline(always)]
     pub fn link_last(&mut self, key: usize)
         requires present { IsSome (item_at self.old key) }
         requires out { is_in key self.old.queue ≡ false }
@@ -241,6 +246,7 @@ impl<T> Slots<T> {
     }
 
     /// Removes an object from the queue, at any position.
+    #[inline(always)]
     pub fn unlink(&mut self, key: usize)
         requires { is_in key self.old.queue ≡ true }
         ensures { self.new ≡ record self.old { queue = without key self.old.queue } }
@@ -258,6 +264,7 @@ impl<T> Slots<T> {
     }
 
     /// Returns the first key of the queue.
+    #[inline(always)]
     pub fn first(&self) -> Option<usize>
         ensures first { result ≡ first_of self.now.queue }
         ensures rack { SlotsInvariant self.now }
@@ -266,6 +273,7 @@ impl<T> Slots<T> {
     }
 
     /// Returns the last key of the queue.
+    #[inline(always)]
     pub fn last(&self) -> Option<usize>
         ensures last { result ≡ last_of self.now.queue }
         ensures rack { SlotsInvariant self.now }
@@ -274,6 +282,7 @@ impl<T> Slots<T> {
     }
 
     /// Returns the key after another one in the queue.
+    #[inline(always)]
     pub fn after(&self, key: usize) -> Option<usize>
         requires { is_in key self.now.queue ≡ true }
         ensures { IsNextIn self.now.queue key result }
@@ -282,6 +291,7 @@ impl<T> Slots<T> {
     }
 
     /// Returns the key before another one in the queue.
+    #[inline(always)]
     pub fn before(&self, key: usize) -> Option<usize>
         requires { is_in key self.now.queue ≡ true }
         ensures { IsPreviousIn self.now.queue key result }

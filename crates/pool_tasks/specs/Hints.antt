@@ -99,3 +99,8 @@ shown hint = place_lines (option_map (λ text. text.now) hint.path) hint.line ++
 abbrev pub hint_of : Bool → Fault → Found → List ℕ
 hint_of false _ _ = []
 hint_of true fault found = place_lines (path_of fault) found.line ++ advice_lines (advice_of fault found.kind)
+
+-- the file of a verdict
+abbrev pub file_hint : Bool → List ℕ → List ℕ
+file_hint false _ = []
+file_hint true path = place_lines (Some path) None

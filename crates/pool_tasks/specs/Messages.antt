@@ -7,7 +7,7 @@ use Rattle.pool_engines.specs.declared.check_fault.CheckFault.{CheckFault}
 use Rattle.pool_engines.specs.declared.engine_fault.EngineFault.{EngineFault}
 use Rattle.pool_engines.specs.declared.check_fault.CheckFault.TheVariants as checks
 use Rattle.pool_tasks.specs.declared.fault.Fault.{Fault}
-use Rattle.pool_tasks.specs.declared.fault.Fault.TheVariants.{WrongArguments, Asked, WrongNumbers, Unopened, OutOfMemory, Settings, UnopenedBeside, Beside, NoRoom, Engine, Load}
+use Rattle.pool_tasks.specs.declared.fault.Fault.TheVariants.{WrongArguments, Asked, WrongNumbers, Unopened, OutOfMemory, Settings, NoRoom, Engine, Load}
 
 -- The line without its line feed. Those of engines and loads have no key and no path, and are not defined here.
 abbrev pub text_of : Fault → Option (List ℕ)
@@ -17,8 +17,6 @@ text_of WrongNumbers = Some (codes "pool: wrong arguments")
 text_of (Unopened path) = Some (codes "pool: cannot open " ++ escaped path.now)
 text_of OutOfMemory = Some (codes "pool: out of memory")
 text_of (Settings _ fault) = Some (file_text fault)
-text_of (UnopenedBeside path) = Some (codes "pool: cannot open the settings beside " ++ escaped path.now)
-text_of (Beside path fault) = Some (file_text fault ++ (codes ", beside " ++ escaped path.now))
 text_of (NoRoom _) = Some (codes "pool: base: no room")
 text_of (Engine _ _) = None
 text_of (Load _) = None

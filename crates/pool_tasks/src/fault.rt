@@ -31,11 +31,7 @@ pub enum Fault<'a> {
     OutOfMemory,
     /// No settings were read from the file at this path.
     Settings(&'a str, FileFault),
-    /// There is no memory to open the file with settings beside the segment at this path, or it may not be read.
-    UnopenedBeside(&'a str),
-    /// No settings were read from that file.
-    Beside(&'a str, FileFault),
-    /// The settings of the segment at this path leave no room for the entries that are outstanding before it.
+    /// The settings of the file at this path leave no room for the entries that are outstanding before it.
     NoRoom(&'a str),
     /// A journal or a script was not read to its end. The path is that of its file: there is none for standard input,
     /// and for an error of the output.
@@ -86,14 +82,6 @@ impl fmt::Display for Fault<'_> {
             Fault::Unopened(path) => write!(f, "pool: cannot open {}", Escaped::new(path)),
             Fault::OutOfMemory => f.write_str("pool: out of memory"),
             Fault::Settings(_, fault) => write!(f, "{fault}"),
-            Fault::UnopenedBeside(path) => {
-                write!(
-                    f,
-                    "pool: cannot open the settings beside {}",
-                    Escaped::new(path)
-                )
-            }
-            Fault::Beside(path, fault) => write!(f, "{fault}, beside {}", Escaped::new(path)),
             Fault::NoRoom(_) => f.write_str("pool: base: no room"),
             Fault::Engine(_, fault) => write!(f, "{fault}"),
             Fault::Load(fault) => write!(f, "{fault}"),

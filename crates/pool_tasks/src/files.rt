@@ -1,6 +1,6 @@
 //! The files of a check.
 ghost use Rattle.std.specs.List.{slice_get};
-ghost use Rattle.std.specs.Prelude.{map, None, unwrap_or};
+ghost use Rattle.std.specs.Prelude.{◌-◌, length, map, min, None, unwrap_or};
 ghost use Rattle.pool_settings.specs.Defaults.{defaults};
 
 use crate::fault::Fault;
@@ -12,22 +12,20 @@ use pool_settings::Settings;
 use std::fs::File;
 use std::io::ErrorKind;
 use std::path::Path;
+use std::sync::atomic::{AtomicUsize, Ordering};
 use std::{fs, io};
-
-/// The most files that stay open until the check ends.
-const MOST_OPEN: usize = 500;
 
 /// The files at these paths.
 #[derive(Drop)]
 pub(crate) struct Files<'a, 'w, 'o, 'p, 'r> {
     pub rt: &'r HostRuntime,
     pub paths: &'w [&'a str],
-    /// The settings of each.
+    /// The settings of each. The last ones are also those of the files after them.
     pub settings: &'w [Settings],
-    /// The first of them, which are open. Each of the others is opened whenever it is read.
-    pub opened: &'o [File],
-    /// Whether they are regular. Files that are not may be read only once.
-    pub are_regular: bool,
+    /// Those that are not regular, and may be read only once. Each of the others is opened whenever it is read.
+    pub opened: &'o [Option<File>],
+    /// The number of the file that was opened last: that of the verdict, unless it is legal.
+    pub last: AtomicUsize,
     pub progress: &'p Progress<'r>,
 }
 
@@ -35,9 +33,8 @@ impl<'o> Files<'_, '_, 'o, '_, '_> {
     /// Returns how to read the file of this number, at this path.
     fn reading(&self, number: usize, path: &str) -> io::Result<Reading<'o>> {
         match self.opened.get(number) {
-            Some(file) if self.are_regular => Ok(Reading::Placed(file, 0)),
-            Some(file) => Ok(Reading::InTurn(file)),
-            None => Ok(Reading::Opened(File::open(self.rt, path)?)),
+            Some(Some(file)) => Ok(Reading::InTurn(file)),
+            _ => Ok(Reading::Opened(File::open(self.rt, path)?)),
         }
     }
 }
@@ -45,14 +42,16 @@ impl<'o> Files<'_, '_, 'o, '_, '_> {
 impl<'a, 'w, 'o, 'p, 'r> Segments<Watched<'o, 'p, 'r>> for Files<'a, 'w, 'o, 'p, 'r> {
     ghost files = { λ files. map (λ path. None) files.paths.now };
 
-    ghost rules = { λ files. λ number. unwrap_or (slice_get files.settings.now number) defaults };
+    ghost rules = { λ files. λ number. unwrap_or (slice_get files.settings.now
+        (min number (length files.settings.now - 1))) defaults };
 
     fn count(&self) -> usize {
         self.paths.len()
     }
 
     fn settings(&self, number: usize) -> Settings {
-        match self.settings.get(number) {
+        let last = self.settings.len().saturating_sub(1);
+        match self.settings.get(number.min(last)) {
             Some(settings) => *settings,
             None => Settings::default(),
         }
@@ -62,6 +61,7 @@ impl<'a, 'w, 'o, 'p, 'r> Segments<Watched<'o, 'p, 'r>> for Files<'a, 'w, 'o, 'p,
         let Some(path) = self.paths.get(number) else {
             return Err(io::Error::from(ErrorKind::NotFound));
         };
+        self.last.store(number, Ordering::SeqCst);
         let reading = self.reading(number, path)?;
         Ok(Watched {
             reading,
@@ -70,18 +70,22 @@ impl<'a, 'w, 'o, 'p, 'r> Segments<Watched<'o, 'p, 'r>> for Files<'a, 'w, 'o, 'p,
     }
 }
 
-/// Opens the files at these paths, in their order, and returns the first `MOST_OPEN`: there may be more files than may
-/// be open at once.
+/// Opens the files at these paths, in their order, and returns those that are not regular. So each error of opening comes
+/// before the check, and there may be more files than may be open at once.
 pub(crate) fn open_all<'a>(
     rt: &HostRuntime,
     paths: &[&'a str],
     progress: &Progress<'_>,
-) -> Result<Vec<File>, Fault<'a>> {
+) -> Result<Vec<Option<File>>, Fault<'a>> {
     let mut opened = Vec::new(rt.alloc());
     for path in paths {
         let file = open(rt, path)?;
         progress.expect(&file);
-        if opened.len() < MOST_OPEN && opened.push(file).is_err() {
+        let is_regular = file.metadata().is_ok_and(|metadata| metadata.is_file());
+        if opened
+            .push(if is_regular { None } else { Some(file) })
+            .is_err()
+        {
             return Err(Fault::OutOfMemory);
         }
     }

@@ -7,7 +7,7 @@ ghost use Rattle.pool_tasks.specs.Help as Spec;
 pub(crate) const USES: &str = "\
 pool run SETTINGS SCRIPT           plays a script, and writes its journal
   pool run examples/patient.toml examples/one-object.script > journal
-pool check SETTINGS JOURNAL..      judges a journal, or its segments in their order, each with the settings beside it: legal, or what was due at the first wrong answer
+pool check SETTINGS JOURNAL..      judges a journal, or its segments in their order: legal, or what was due at the first wrong answer
   pool check examples/patient.toml journal
 pool stats JOURNAL                 reports the statistics of a journal
   pool stats journal

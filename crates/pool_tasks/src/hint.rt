@@ -22,6 +22,12 @@ pub(crate) struct Hint<'a> {
     advice: Option<&'static str>,
 }
 
+const EMPTY: Hint<'static> = Hint {
+    path: None,
+    line: None,
+    advice: None,
+};
+
 impl<'a> Hint<'a> {
     /// Returns the hint for an error, from the findings at its position. The hint is empty unless it is for a terminal.
     pub(crate) fn of(fault: &Fault<'a>, found: Found, is_terminal: bool) -> Hint<'a>
@@ -34,11 +40,21 @@ impl<'a> Hint<'a> {
                 advice: advice_of(fault, found.kind),
             }
         } else {
+            EMPTY
+        }
+    }
+
+    /// Returns the hint that names a file. The hint is empty unless it is for a terminal.
+    pub(crate) fn of_file(path: &'a str, is_terminal: bool) -> Hint<'a>
+        ensures { Spec.shown result ≡ Spec.file_hint is_terminal path.now }
+    {
+        if is_terminal {
             Hint {
-                path: None,
-                line: None,
-                advice: None,
+                path: Some(path),
+                ..EMPTY
             }
+        } else {
+            EMPTY
         }
     }
 }
@@ -87,7 +103,7 @@ fn path_of<'a>(fault: &Fault<'a>) -> Option<&'a str>
 }
 
 /// Returns whether an error is one of the settings file, and not of memory.
-pub(crate) fn is_of_file(fault: &FileFault) -> bool
+fn is_of_file(fault: &FileFault) -> bool
     ensures { result ≡ Spec.is_of_file fault.now }
 {
     !matches!(

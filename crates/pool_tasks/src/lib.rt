@@ -2,7 +2,6 @@
 //! with hints at a terminal, and help.
 #![tactic(auto)]
 
-mod changes;
 mod checks;
 mod fault;
 mod files;
@@ -15,7 +14,7 @@ mod reporting;
 mod runs;
 mod watched;
 
-pub use checks::check_journal;
+pub use checks::{Checked, check_files, check_journal};
 pub use fault::{Fault, engine_result};
 pub use reporting::{refuse, report};
 pub use runs::{report_statistics, run_input, run_script, settings_in};

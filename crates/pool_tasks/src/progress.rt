@@ -1,10 +1,7 @@
 //! The progress of a long check, printed at a terminal.
-ghost use Rattle.std.specs.Prelude.{true};
 
-use pool_engines::{Sink, flush_past_signals, write_past_signals};
 use std::fs::File;
-use std::io;
-use std::io::{IsTerminal, Stdout, Write};
+use std::io::{IsTerminal, Write};
 use std::sync::atomic::{AtomicBool, AtomicU64, Ordering};
 use std::time::Instant;
 
@@ -16,6 +13,8 @@ const PERIOD: u64 = 1;
 #[derive(Drop)]
 pub(crate) struct Progress<'a> {
     rt: &'a HostRuntime,
+    /// The name of the program.
+    program: &'static str,
     /// The length of the files in bytes, as far as the system knows.
     length: AtomicU64,
     read: AtomicU64,
@@ -28,7 +27,7 @@ pub(crate) struct Progress<'a> {
 
 impl<'a> Progress<'a> {
     /// Returns the progress before the first file.
-    pub fn of(rt: &'a HostRuntime) -> Progress<'a> {
+    pub fn of(rt: &'a HostRuntime, program: &'static str) -> Progress<'a> {
         let began = if rt.stderr().is_terminal() {
             Instant::now(rt).ok()
         } else {
@@ -36,6 +35,7 @@ impl<'a> Progress<'a> {
         };
         Progress {
             rt,
+            program,
             length: AtomicU64::new(0),
             read: AtomicU64::new(0),
             began,
@@ -80,10 +80,11 @@ impl<'a> Progress<'a> {
     fn show(&self) {
         let read = self.read.load(Ordering::SeqCst) / 1_000_000;
         let length = self.length.load(Ordering::SeqCst) / 1_000_000;
+        let program = self.program;
         let _ = if length == 0 || length < read {
-            write!(self.rt.stderr(), "\r\x1b[Kpool: {read} MB")
+            write!(self.rt.stderr(), "\r\x1b[K{program}: {read} MB")
         } else {
-            write!(self.rt.stderr(), "\r\x1b[Kpool: {read} of {length} MB")
+            write!(self.rt.stderr(), "\r\x1b[K{program}: {read} of {length} MB")
         };
         self.is_shown.store(true, Ordering::SeqCst);
     }
@@ -93,35 +94,5 @@ impl<'a> Progress<'a> {
         if self.is_shown.swap(false, Ordering::SeqCst) {
             let _ = self.rt.stderr().write_all(b"\r\x1b[K");
         }
-    }
-}
-
-/// Standard output. The message is wiped before anything is written to it.
-#[derive(Drop)]
-pub(crate) struct Wiped<'p, 'r> {
-    pub out: Stdout,
-    pub progress: &'p Progress<'r>,
-}
-
-impl Write for Wiped<'_, '_> {
-    fn write(&mut self, buf: &[u8]) -> io::Result<usize> {
-        self.progress.wipe();
-        self.out.write(buf)
-    }
-
-    fn flush(&mut self) -> io::Result<()> {
-        self.out.flush()
-    }
-}
-
-impl Sink for Wiped<'_, '_> {
-    ghost may_have_failed = { λ _. true };
-
-    fn write_some(&mut self, bytes: &[u8]) -> io::Result<usize> {
-        write_past_signals(self, bytes)
-    }
-
-    fn flush_all(&mut self) -> io::Result<()> {
-        flush_past_signals(self)
     }
 }

@@ -7,13 +7,10 @@ use pool_engines::{Source, read_past_signals};
 use std::fs::File;
 use std::io;
 use std::io::Read;
-use std::os::unix::fs::FileExt;
 
 /// The way in which a file is read.
 #[derive(Drop)]
 pub(crate) enum Reading<'o> {
-    /// From this position on, wherever others read it.
-    Placed(&'o File, u64),
     /// From the position at which it was last read.
     InTurn(&'o File),
     /// It was opened to be read once.
@@ -25,11 +22,6 @@ impl Reading<'_> {
         ensures { ReadsAtMost result buffer.new }
     {
         match self {
-            Reading::Placed(file, place) => {
-                let count = file.read_at(buffer, *place)?;
-                *place = place.saturating_add(count as u64);
-                Ok(count)
-            }
             Reading::InTurn(file) => Read::read(file, buffer),
             Reading::Opened(file) => Read::read(file, buffer),
         }

@@ -6,6 +6,7 @@ ghost use Rattle.sorted_index.specs.Marks.{all_in, pairs_in, IsStoredAt, IsThere
 use crate::stored::Stored;
 
 // The position of an id if no id between it and the first is missing: the difference of the two ids.
+#[inline(always)]
 fn position_in_a_row(stored: &[Stored], id: u64) -> Option<usize>
     ensures { IfSome result (IsStoredAt stored.now id) }
 {
@@ -28,6 +29,7 @@ fn position_searched(stored: &[Stored], id: u64) -> Option<usize>
 }
 
 // The position of an id, marked or not.
+#[inline(always)]
 fn position_stored(stored: &[Stored], id: u64) -> Option<usize>
     requires { IsAscending (all_in stored.now) }
     ensures found { IfSome result (IsStoredAt stored.now id) }
@@ -40,6 +42,7 @@ fn position_stored(stored: &[Stored], id: u64) -> Option<usize>
 }
 
 /// Returns the position of an id, if its pair is present.
+#[inline(always)]
 pub(crate) fn position_there(stored: &[Stored], id: u64) -> Option<usize>
     requires { IsAscending (all_in stored.now) }
     ensures there { IfSome result (IsThereAt stored.now id) }

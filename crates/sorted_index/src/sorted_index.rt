@@ -66,6 +66,7 @@ impl SortedIndex {
     }
 
     /// Returns the key under an id, if there is one.
+    #[inline(always)]
     pub fn find(&self, id: u64) -> Option<usize>
         ensures value { result ≡ key_of self.now.pairs id }
         ensures ascending { IsAscending self.now.pairs }

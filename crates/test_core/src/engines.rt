@@ -6,6 +6,7 @@ mod failing;
 mod outcomes;
 mod reports;
 mod scripts;
+mod segments;
 mod settings_files;
 mod statistics;
 mod streams;
@@ -14,6 +15,7 @@ use pool_engines::{EngineFault, FileFault, Sink, Source};
 use pool_settings::Settings;
 use pool_stats::Statistics;
 use std::alloc::Global;
+use std::slice;
 
 /// Plays a script.
 pub fn run<R: Source, W: Sink>(
@@ -25,14 +27,14 @@ pub fn run<R: Source, W: Sink>(
     pool_engines::run(alloc, settings, reader, writer)
 }
 
-/// Checks a journal.
+/// Checks a journal in one file.
 pub fn check<R: Source, W: Sink>(
     alloc: Global,
     settings: Settings,
     reader: &mut R,
     writer: &mut W,
 ) -> Result<bool, EngineFault> {
-    pool_engines::check(alloc, settings, reader, writer)
+    pool_engines::check(alloc, settings, slice::from_mut(reader), writer)
 }
 
 /// Writes the statistics of a journal.

@@ -24,7 +24,6 @@ mod places;
 #[cfg(test)]
 mod playing;
 #[cfg(test)]
-mod reconfiguring;
 #[cfg(test)]
 mod settings;
 #[cfg(test)]

@@ -3,6 +3,7 @@ ghost use Rattle.std.specs.Prelude.{◌≡◌, is_some};
 ghost use Rattle.pool_journal.specs.Carrying.{carries};
 
 use crate::dice::Dice;
+use crate::judging::is_legal;
 use crate::reopening::{VALUE, cut_again, opened_again};
 use pool_core::{Core, StepFault};
 use pool_journal::{Answer, Entry, Input, Outcome, Segment};
@@ -35,6 +36,7 @@ pub struct Life {
 pub enum Verdict {
     Same,
     Different,
+    Illegal,
     Unfinished,
     OutOfMemory,
 }
@@ -45,6 +47,7 @@ impl Verdict {
         match self {
             Verdict::Same => "finished, the same twice",
             Verdict::Different => "the two differ",
+            Verdict::Illegal => "the journal is not legal",
             Verdict::Unfinished => "something is left",
             Verdict::OutOfMemory => "out of memory",
         }
@@ -123,6 +126,12 @@ impl Life {
     fn is_same(&self, other: &Life) -> bool {
         self.entries_before() == other.entries_before()
             && self.core.journal() == other.core.journal()
+    }
+
+    /// Returns whether its journal is legal, in the two files that it has since it was cut.
+    pub fn is_legal(&self, alloc: Global) -> Result<bool, AllocError> {
+        let settings = settings_of(self.limit);
+        is_legal(alloc, settings, self.entries_before(), &self.core)
     }
 
     fn entries_before(&self) -> &[Entry] {

@@ -3,10 +3,12 @@
 //!
 //! In the middle of each run it cuts the journal, and opens the pool again from the state after it. It makes each run
 //! twice. A step, a cut or an opening that fails for lack of memory is tried again, so both runs are the same, even if
-//! an allocation fails in one of them. It writes a line with the result for each limit of the journal.
+//! an allocation fails in one of them. It checks the journal of a life in two files, before and after the cut. It writes
+//! a line with the result for each limit of the journal.
 #![tactic(auto)]
 
 mod dice;
+mod judging;
 mod life;
 mod reopening;
 
@@ -21,7 +23,11 @@ const LIMITS: [u64; 4] = [1, 8, 16, 30];
 fn compared(alloc: Global, limit: u64, one: &Life) -> Result<Verdict, AllocError> {
     let mut other = Life::begun(alloc, limit)?;
     other.run(alloc);
-    Ok(one.verdict(&other))
+    if one.is_legal(alloc)? {
+        Ok(one.verdict(&other))
+    } else {
+        Ok(Verdict::Illegal)
+    }
 }
 
 /// Runs two lives of one kind, and returns how they ended.

@@ -73,10 +73,10 @@ fn print_all(entries: &[Entry], text: &mut Vec<u8>) -> Result<(), SeedError> {
 }
 
 // Returns the verdict of the engine of `pool check` on a journal's text.
-fn judge_text(alloc: Global, settings: Settings, mut text: &[u8]) -> Result<bool, SeedError> {
+fn judge_text(alloc: Global, settings: Settings, text: &[u8]) -> Result<bool, SeedError> {
     let mut verdict = Vec::new(alloc);
     verdict.reserve(VERDICT)?;
-    check(alloc, settings, &mut text, &mut verdict).map_err(|fault| match fault {
+    check(alloc, settings, &mut [text], &mut verdict).map_err(|fault| match fault {
         EngineFault::OutOfMemory => SeedError::OutOfMemory,
         _ => SeedError::NotJudged,
     })

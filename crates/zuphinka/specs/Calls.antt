@@ -3,18 +3,16 @@ use Rattle.std.specs.Prelude.{◌≡◌, ℕ, ◌+◌, true, false, if◌then◌
 use Rattle.pool_settings.specs.Answer.{settings_of_text, IsAnswer}
 use Rattle.pool_settings.specs.declared.fault.SettingsFault.{SettingsFault}
 use Rattle.pool_settings.specs.declared.settings.Settings.{Settings}
-use Rattle.pool_journal.specs.Base.{empty_base, closed_from, records_from, base_after}
+use Rattle.pool_journal.specs.Base.{empty_base, closed_from, base_after}
 use Rattle.pool_journal.specs.Carrying.{carries}
 use Rattle.pool_journal.specs.declared.answer.Answer.{Answer}
 use Rattle.pool_journal.specs.declared.entry.Entry.{Entry}
 use Rattle.pool_journal.specs.declared.input.Input.{Input}
-use Rattle.pool_places.specs.PlacesModel.{records_in}
 use Rattle.pool_core.specs.Core.{Answered}
 use Rattle.pool_core.specs.Completion.{is_completing}
 use Rattle.pool_core.specs.Fits.{FitsLimitFrom, ExceedsLimitFrom, owed_from, limit_from}
-use Rattle.pool_core.specs.Values.{StoresIdleValuesFrom}
-use Rattle.pool_core.specs.Legal.{IsLegalFrom, expected_entry_from}
-use Rattle.pool_core.specs.Pool.{CoreModel}
+use Rattle.pool_core.specs.Legal.{expected_entry_from}
+use Rattle.pool_core.specs.Pool.{CoreModel, IsConsistent}
 use Rattle.pool_core.specs.Reply.{reply_from}
 use Rattle.pool_core.specs.Steps.{keeps_value}
 use Rattle.pool_driver.specs.Driving as driver
@@ -84,13 +82,6 @@ OpensWith text options (Some pool) new s = (s ≡ AlreadyOpen) × (new ≡ Some 
 -- the token that is passed in: the request's, exactly if the input carries one
 abbrev pub handed_in : Request → Input → Option ℕ
 handed_in q input = if carries input then Some q.object else None
-
--- the properties of a pool after each step
-pub record IsConsistent (pool : CoreModel ℕ) : Type 0 where
-  pub legal : IsLegalFrom pool.settings pool.base pool.journal
-  pub objects : records_in pool.places ≡ records_from pool.base pool.journal
-  pub values : StoresIdleValuesFrom pool.base pool.journal pool.places
-  pub fits : FitsLimitFrom pool.settings pool.base pool.journal
 
 -- the pool took the step, and the reply is its answer with the token that is returned; after the pool is closed, no object
 -- becomes idle

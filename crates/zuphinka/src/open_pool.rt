@@ -16,7 +16,7 @@ use crate::starting::{CallStart, Kind};
 use crate::status::Status;
 use crate::table::Table;
 use pool_calls::Action;
-use pool_core::Core;
+use pool_core::Recorder;
 use pool_driver::{Call, DrivenPool, Effects, Hooks, Report};
 use pool_journal::{Answer, Input};
 use pool_settings::Settings;
@@ -108,7 +108,7 @@ impl OpenPool {
     }
 
     /// Returns the pool with its journal.
-    pub(crate) fn core(&self) -> &Core<u64>
+    pub(crate) fn core(&self) -> &Recorder<u64>
         ensures { result.now ≡ self.now.driven.core }
     {
         self.driven.core()

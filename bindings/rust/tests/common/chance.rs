@@ -4,6 +4,7 @@ use super::caught;
 use std::panic;
 use std::sync::atomic::{AtomicBool, AtomicU64, Ordering};
 use std::sync::{Arc, Mutex};
+use std::{error, fmt};
 use zuphinka::{Manager, Pool};
 
 /// One call of a manager in this number fails.
@@ -78,6 +79,14 @@ pub fn panic_at_random() -> ! {
 /// Why a call failed.
 #[derive(Debug)]
 pub struct Failed;
+
+impl fmt::Display for Failed {
+    fn fmt(&self, f: &mut fmt::Formatter<'_>) -> fmt::Result {
+        f.write_str("by chance")
+    }
+}
+
+impl error::Error for Failed {}
 
 /// How often each object was dropped, in the order in which they were made.
 pub type Drops = Mutex<Vec<u32>>;

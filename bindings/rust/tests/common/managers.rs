@@ -1,5 +1,6 @@
 //! Managers with hooks or without, and a clock that tests set.
 
+use std::convert::Infallible;
 use std::sync::atomic::{AtomicU64, Ordering};
 use std::sync::{Arc, Mutex};
 use std::{error, fmt, mem};
@@ -10,11 +11,11 @@ pub struct Numbers<const HOOKS: bool>;
 
 impl<const HOOKS: bool> Manager for Numbers<HOOKS> {
     type Object = u64;
-    type Error = ();
+    type Error = Infallible;
     const ACTIVATES: bool = HOOKS;
     const PASSIVATES: bool = HOOKS;
 
-    fn make(&self, id: u64) -> Result<u64, ()> {
+    fn make(&self, id: u64) -> Result<u64, Infallible> {
         Ok(id)
     }
 }

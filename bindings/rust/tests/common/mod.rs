@@ -10,10 +10,10 @@ use std::panic::{self, AssertUnwindSafe};
 use std::path::{Path, PathBuf};
 use std::process::Command;
 use std::sync::atomic::{AtomicU64, Ordering};
-use std::sync::{Arc, Mutex};
+use std::sync::{mpsc, Arc, Mutex};
 use std::time::{Duration, Instant};
 use std::{env, fs, mem, thread};
-use zuphinka::{Manager, Pool, Segment, SegmentSink};
+use zuphinka::{Manager, Pool, Segment, SegmentSink, Segments};
 
 /// The repository.
 pub fn top() -> PathBuf {
@@ -75,6 +75,49 @@ impl<F: FnMut() -> bool + Send> SegmentSink for MemorySink<F> {
     }
 }
 
+/// Segments for a sink that are stored when they are due, and by no thread of the journal's own.
+pub fn when_due(sink: impl SegmentSink + 'static) -> Segments {
+    Segments::new(sink).store_every(None)
+}
+
+/// The same in a folder.
+pub fn in_folder_when_due(path: impl AsRef<Path>) -> Segments {
+    Segments::in_folder(path).unwrap().store_every(None)
+}
+
+/// The folders of the starts below a folder, in the order of their names.
+pub fn starts_in(folder: &Path) -> Vec<PathBuf> {
+    let entries = fs::read_dir(folder).unwrap();
+    let mut starts: Vec<_> = entries.map(|entry| entry.unwrap().path()).collect();
+    starts.sort();
+    starts
+}
+
+/// The folder of the only start.
+pub fn start_in(folder: &Path) -> PathBuf {
+    let mut starts = starts_in(folder);
+    assert_eq!(starts.len(), 1, "{starts:?}");
+    starts.remove(0)
+}
+
+/// The names of the files in a folder, in order.
+pub fn files_in(folder: &Path) -> Vec<String> {
+    let files = fs::read_dir(folder).unwrap();
+    let names = files.map(|file| file.unwrap().file_name().into_string().unwrap());
+    let mut names: Vec<_> = names.collect();
+    names.sort();
+    names
+}
+
+/// The segments of a start, in their order.
+pub fn segments_in(start: &Path) -> Vec<String> {
+    let names = files_in(start).into_iter();
+    names
+        .filter(|name| name.starts_with("segment-"))
+        .map(|name| fs::read_to_string(start.join(name)).unwrap())
+        .collect()
+}
+
 /// The texts of segments that follow one another from the first entry on.
 pub fn texts_of(stored: &Stored) -> Vec<String> {
     let mut end = 0;
@@ -98,16 +141,31 @@ pub fn judge_segments<T: AsRef<[u8]>>(settings: &str, segments: &[T]) -> String 
     for (file, segment) in files.iter().zip(segments) {
         fs::write(file, segment).unwrap();
     }
+    let verdict = check(&settings_file, &files);
+    fs::remove_dir_all(folder).unwrap();
+    verdict
+}
+
+/// What the program says of segments in files.
+fn check(settings: &Path, segments: &[PathBuf]) -> String {
     // Another test may remove the folder in which this process is.
     let done = Command::new(program())
         .current_dir("/")
         .arg("check")
-        .arg(settings_file)
-        .args(files)
+        .arg(settings)
+        .args(segments)
         .output()
         .unwrap();
-    fs::remove_dir_all(folder).unwrap();
     String::from_utf8(done.stdout).unwrap() + &String::from_utf8(done.stderr).unwrap()
+}
+
+/// Sees that the program finds the journal of a start legal where it is, with this many entries.
+pub fn assert_start_legal(start: &Path, entries: u64) {
+    let names = files_in(start).into_iter();
+    let segments = names.filter(|name| name.starts_with("segment-"));
+    let files: Vec<_> = segments.map(|name| start.join(name)).collect();
+    let verdict = check(&start.join("settings.toml"), &files);
+    assert_eq!(verdict, format!("legal {entries}\n"), "{files:?}");
 }
 
 /// The entries of a segment, without the lines of its base.
@@ -226,4 +284,13 @@ pub fn while_waiting<M: Manager, R: Send>(
         assert!(began.elapsed() < tasks::LONGEST, "nobody wakes the thread");
         came
     })
+}
+
+/// What a call in a thread of its own comes to. Fails if it does not end.
+pub fn in_time<R: Send + 'static>(call: impl FnOnce() -> R + Send + 'static) -> R {
+    let (sender, receiver) = mpsc::channel();
+    thread::spawn(move || sender.send(call()));
+    receiver
+        .recv_timeout(tasks::LONGEST)
+        .expect("the call ends")
 }

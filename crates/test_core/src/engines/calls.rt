@@ -5,7 +5,7 @@ use crate::engines::outcomes::{is, is_at};
 use crate::engines::scripts::{FAILED_ACTIVATION, PLAIN_LIFE, script_of, with_limit};
 use crate::engines::settings_files::says_three;
 use crate::engines::streams::{Endless, Failing, Pieces};
-use crate::engines::{check, read_settings, run, stats};
+use crate::engines::{check, read_settings, run, stats, stats_of_at_most};
 use pool_engines::EngineFault;
 use pool_journal::LineFault;
 use pool_settings::Settings;
@@ -151,6 +151,42 @@ fn an_endless_script_is_left_where_the_journal_is_full(rt: HostRuntime) {
     let found = (made, reader.reads(), written.as_slice());
     let full = EngineFault::Full(8);
     is(&rt, found, (Err(full), 1, FULL_OF_CLOSES.as_bytes()));
+}
+
+/// The most bytes of seven lines and one more.
+const EIGHT_LINES: usize = 8 * 256;
+
+/// Ends the test unless a reader was asked once, for no more bytes than eight lines can have.
+fn is_asked_for_eight_lines(rt: &impl Abort, reader: &CountedReader) {
+    let asked = reader.asked();
+    assert!(rt; asked.reads == 1);
+    assert!(rt; asked.most_room <= EIGHT_LINES);
+}
+
+#[test]
+fn no_more_is_read_than_the_limit_allows(rt: HostRuntime) {
+    let mut written = Vec::new(rt.alloc());
+    let script = repeated(&rt, rt.alloc(), "0 0 close\n", 10_000);
+    let mut reader = CountedReader::new(&script, 0);
+    let made = run(rt.alloc(), with_limit(7), &mut reader, &mut written);
+    is(&rt, made, Err(EngineFault::Full(8)));
+    is_asked_for_eight_lines(&rt, &reader);
+}
+
+#[test]
+fn no_more_of_a_journal_is_read_than_the_limit_allows(rt: HostRuntime) {
+    let mut reported = Vec::new(rt.alloc());
+    let mut journal = repeated(&rt, rt.alloc(), "0 0 close = count 0\n", 1);
+    let more = repeated(&rt, rt.alloc(), "0 0 close = nothing\n", 10_000);
+    journal.extend_from_slice(&more).expect(&rt, "lines");
+    let mut reader = CountedReader::new(&journal, 0);
+    let found = check(rt.alloc(), with_limit(7), &mut reader, &mut reported);
+    is(&rt, found, Err(EngineFault::Full(8)));
+    is_asked_for_eight_lines(&rt, &reader);
+    let mut reader = CountedReader::new(&journal, 0);
+    let tallied = stats_of_at_most(rt.alloc(), 7, &mut reader, &mut reported);
+    is(&rt, tallied, Err(EngineFault::Full(8)));
+    is_asked_for_eight_lines(&rt, &reader);
 }
 
 #[test]

@@ -4,6 +4,7 @@ use Rattle.std.proofs.lemmas.Result.{err_from_is_err_and}
 use Rattle.pool_engines.proofs.Reporting.{not_read, stays, unreported}
 use Rattle.pool_engines.proofs.Going.{Going-begun, Passes-stopped, Passes-handed, Passes-unhanded, Passes-broken}
 use Rattle.pool_engines.specs.Faults.{is_write_failure}
+use Rattle.pool_engines.specs.Leaving.{most_bytes}
 use Rattle.pool_engines.proofs.engine.process_lines.Goals as goal
 use Rattle.pool_engines.proofs.engine.process_lines.Goals.{then-not-is_write_failure+in_ok-write_buffered, else-not-is_write_failure}
 
@@ -12,8 +13,8 @@ returns-in-Err-clause-passed g c =
     let e = g.E.Engine in
     let r = c.requires in
     let begun = e.with_past c.args.engine.now e.none in
-    let going = Going-begun e.settings e.taken e.reported e.active e.is_partial e.ends begun (g.R.Read.remaining c.args.reader.now) (g.W.Write.contents c.args.writer.now) r.active r.none_taken r.none_reported in
-    (e.none, r.keeps, Passes-stopped e.settings e.taken e.reported e.active e.is_partial e.ends begun _ _ _ begun _ _ _ _ going (λ reported. absurd (false≢true reported)) (λ rest. g.met.E.Engine.stops_at_first begun rest r.active r.is_new))
+    let going = Going-begun e.settings e.taken e.reported e.active e.is_partial e.ends (most_bytes (e.lines_left c.args.engine.now)) begun (g.R.Read.remaining c.args.reader.now) (g.W.Write.contents c.args.writer.now) r.active r.none_taken r.none_reported in
+    (e.none, r.keeps, Passes-stopped e.settings e.taken e.reported e.active e.is_partial e.ends (most_bytes (e.lines_left c.args.engine.now)) begun _ _ _ begun _ _ _ _ going (λ reported. absurd (false≢true reported)) (λ rest. g.met.E.Engine.stops_at_first begun rest r.active r.is_new))
 
 pub returns-in_err-write_buffered-clause-passed : goal.returns-in_err-write_buffered-clause-passed
 returns-in_err-write_buffered-clause-passed g c =
@@ -22,7 +23,7 @@ returns-in_err-write_buffered-clause-passed g c =
     let (end, keeps, passed) = c.pass_lines-end.ensures.passed in
     let engine = e.with_past c.pass_lines-end.new.engine end in
     let works : is_write_failure c.pass_lines-end.result ≡ false = sym c.is_write_failure.ensures ∙ c.if-not-is_write_failure.true in
-    rw (p.1, p.2, c.in_err-write_buffered.ensures.fault) (end, keeps, Passes-unhanded e.settings e.taken e.reported e.active e.is_partial e.ends (e.with_past c.args.engine.now e.none) _ _ c.pass_lines-end.result engine _ _ _ _ works passed c.in_err-write_buffered.ensures.on_error (λ rest. g.met.E.Engine.fails_after engine rest c.pass_lines-end.result))
+    rw (p.1, p.2, c.in_err-write_buffered.ensures.fault) (end, keeps, Passes-unhanded e.settings e.taken e.reported e.active e.is_partial e.ends (most_bytes (e.lines_left c.args.engine.now)) (e.with_past c.args.engine.now e.none) _ _ c.pass_lines-end.result engine _ _ _ _ works passed c.in_err-write_buffered.ensures.on_error (λ rest. g.met.E.Engine.fails_after engine rest c.pass_lines-end.result))
 
 pub returns-clause-passed : goal.returns-clause-passed
 returns-clause-passed g c =
@@ -33,10 +34,10 @@ returns-clause-passed g c =
     elim c.if-not-is_write_failure.branch [
       | then-not-is_write_failure+in_ok-write_buffered w ↦
           let works : is_write_failure c.pass_lines-end.result ≡ false = sym c.is_write_failure.ensures ∙ w.if-not-is_write_failure.true in
-          rw w.writer-is (end, keeps, Passes-handed e.settings e.taken e.reported e.active e.is_partial e.ends begun _ _ c.pass_lines-end.result engine _ _ _ _ works passed w.in_ok-write_buffered.ensures.ok.1)
+          rw w.writer-is (end, keeps, Passes-handed e.settings e.taken e.reported e.active e.is_partial e.ends (most_bytes (e.lines_left c.args.engine.now)) begun _ _ c.pass_lines-end.result engine _ _ _ _ works passed w.in_ok-write_buffered.ensures.ok.1)
       | else-not-is_write_failure w ↦
           let broken : is_write_failure c.pass_lines-end.result ≡ true = sym c.is_write_failure.ensures ∙ w.if-not-is_write_failure.false in
-          rw w.writer-is (end, keeps, Passes-broken e.settings e.taken e.reported e.active e.is_partial e.ends begun _ _ c.pass_lines-end.result engine _ _ _ broken passed)
+          rw w.writer-is (end, keeps, Passes-broken e.settings e.taken e.reported e.active e.is_partial e.ends (most_bytes (e.lines_left c.args.engine.now)) begun _ _ c.pass_lines-end.result engine _ _ _ broken passed)
     ]
 
 pub returns-in_err-write_buffered-clause-reader : goal.returns-in_err-write_buffered-clause-reader

@@ -1,4 +1,4 @@
-use Rattle.std.proofs.Common.{◌∙◌, take, subst, sym, rules}
+use Rattle.std.proofs.Common.{arith, ◌∙◌, take, subst, sym, rules}
 use Rattle.std.specs.Io.KnownBytes.{Consumes}
 use Rattle.std.proofs.KnownBytes.{Consumes-trans}
 use Rattle.pool_engines.proofs.Windows.{take-grown}
@@ -14,7 +14,7 @@ loop-count-preserved g c =
     let grown = take-grown buffer (take before c.loop-count.buffer) before c.in-Ok.more c.in-Ok.ensures.front in
     record {
       length_stays = c.read_behind.auto.buffer ∙ c.loop-count.invariant.length_stays;
-      within = more.0;
+      within = omega (arith, more.0, c.read_behind.auto.buffer, c.loop-count.invariant.length_stays);
       came = subst (Consumes known left) (sym grown) (Consumes-trans known _ left _ _ c.loop-count.invariant.came more.1);
       reads = c.in-Ok.ensures.reported ∙ c.loop-count.invariant.reads;
     }

@@ -1,59 +1,26 @@
-use Rattle.std.proofs.Common.{◌≡◌, ◌-◌, ◌<◌, true, false, [], ◌++◌, length, get_or, take, drop, refl, rules, arith, append_assoc}
-use Rattle.std.proofs.lemmas.Grind.{common_steps}
-use Rattle.std.proofs.lemmas.Str.{IsCharBoundary-start, IsCharBoundary-after_ascii, IsCharBoundary-before_ascii}
+use Rattle.std.proofs.Common.{sym, ◌∙◌, [], ◌++◌, rules, append_assoc, append-nil}
+use Rattle.std.proofs.lemmas.Str.{IsUtf8-past_char, chars_past_char}
+use Rattle.std.proofs.StrCases.{chars_of_empty}
 use Rattle.std.proofs.Output.{has_written_append, has_written_of_eq}
-use Rattle.toml_writer.specs.Text.{escape_text}
-use Rattle.pool_settings.specs.Escaped.{needs_escape}
-use Rattle.pool_settings.proofs.Escapes.{needs_ascii, keep_byte, escape_byte, escaped-end}
+use Rattle.pool_settings.specs.Escaped.{escape}
 use Rattle.pool_settings.proofs.escaped.write_escaped.Goals as goal
-use Rattle.pool_settings.proofs.escaped.write_escaped.Goals.{then-needs_escape+in_ok-write_str+in_ok-write_escape, else-needs_escape}
 
-pub range-requires-clause-end_boundary : goal.range-requires-clause-end_boundary
-range-requires-clause-end_boundary g c =
-    let needed : needs_escape (get_or c.args.text.now c.bytes.at 0) ≡ true = grind (arith, common_steps) in
-    IsCharBoundary-before_ascii c.args.text.now c.bytes.at (omega (arith, c.as_bytes-bytes.ensures.len)) (needs_ascii _ needed)
+pub loop-c-init : goal.loop-c-init
+loop-c-init g c = (search rules, [], search rules, search rules)
 
-pub write_escape-requires : goal.write_escape-requires
-write_escape-requires g c =
-    let needed : needs_escape (get_or c.args.text.now c.bytes.at 0) ≡ true = grind (arith, common_steps) in
-    grind (arith, common_steps, needs_ascii (get_or c.args.text.now c.bytes.at 0) needed)
-
-pub bytes-init : goal.bytes-init
-bytes-init g c = (omega arith, IsCharBoundary-start c.args.text.now c.utf8.text, [], refl, search rules)
-
-pub bytes-preserved : goal.bytes-preserved
-bytes-preserved g c =
-    let l = c.bytes in
-    let s = c.args.text.now in
-    let (low, bound, done, whole, wrote) = l.invariant in
-    let within : l.at < length s = omega (arith, c.as_bytes-bytes.ensures.len) in
-    elim c.if-needs_escape.branch [
-      | then-needs_escape+in_ok-write_str+in_ok-write_escape w ↦
-          let needed : needs_escape (get_or s l.at 0) ≡ true = grind (arith, common_steps) in
-          let next = escape_byte s done _ l.start l.at within needed whole in
-          let run = take (l.at - l.start) (drop l.start s) in
-          let text = done ++ (run ++ escape_text (get_or s l.at 0)) in
-          rw (w.start-is, w.f-is) (
-            omega arith,
-            IsCharBoundary-after_ascii s l.at c.utf8.text within (needs_ascii _ needed),
-            text,
-            next,
-            λ plain.
-                let sofar = wrote plain in
-                let one = w.write_str.ensures.writes sofar.plain (search rules) in
-                let two = w.write_escape.ensures one.plain (search rules) in
-                has_written_of_eq _ _ _ _ _ (grind (arith, common_steps, append_assoc)) (has_written_append _ _ _ _ _ _ (has_written_append _ _ _ _ _ _ sofar one) two),
-          )
-      | else-needs_escape w ↦
-          let plain : needs_escape (get_or s l.at 0) ≡ false = grind (arith, common_steps) in
-          rw (w.start-is, w.f-is) (omega arith, bound, done, keep_byte s done _ l.start l.at low within plain whole, wrote)
-    ]
+pub loop-c-preserved : goal.loop-c-preserved
+loop-c-preserved g c =
+    let (text, done, whole, wrote) = c.loop-c.invariant in
+    let parts = c.in-Some.ensures.steps.0 in (
+      IsUtf8-past_char _ _ c.in-Some.c text parts,
+      done ++ escape c.in-Some.c,
+      rw append_assoc (rw (chars_past_char _ _ c.in-Some.c text parts) at whole),
+      λ plain.
+          let sofar = wrote plain in
+          has_written_append _ _ _ _ _ _ sofar (c.in_ok-write_one.ensures sofar.plain (search rules)),
+    )
 
 pub returns : goal.returns
 returns g c plain ok =
-    let l = c.bytes in
-    let s = c.args.text.now in
-    let (low, bound, done, whole, wrote) = l.invariant in
-    let at_end : l.at ≡ length s = omega (arith, c.as_bytes-bytes.ensures.len) in
-    let text = escaped-end s done _ l.start l.at low at_end whole in
-    has_written_of_eq _ _ _ _ _ text (has_written_append _ _ _ _ _ _ (wrote plain) (search rules))
+    let (text, done, whole, wrote) = c.loop-c.invariant in
+    has_written_of_eq _ _ _ _ _ (sym (append-nil done) ∙ rw (chars_of_empty _ c.in-None.ensures.steps.0.0) at whole) (wrote plain)

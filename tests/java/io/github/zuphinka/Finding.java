@@ -4,8 +4,9 @@ import java.util.ArrayList;
 import java.util.List;
 import java.util.Objects;
 import java.util.Random;
+import java.util.stream.Collectors;
 
-/** Looks at the objects that have a place: each is found by its slot, also among many. */
+/** Looks at the objects that have a place: each is found by its slot, also among many, and a search finds all of them in their order. */
 public final class Finding {
     /** So many objects, if each search looks at all others, take minutes. */
     private static final int MANY = 1_000_000;
@@ -27,6 +28,9 @@ public final class Finding {
                 some.add();
             } else {
                 some.removeAt(random.nextInt(Math.max(1, some.present.size())));
+            }
+            if (round % 1_000 == 0) {
+                some.search();
             }
         }
         Finding many = new Finding();
@@ -62,6 +66,24 @@ public final class Finding {
         members.remove(member);
         expect("once it is removed", null, members.at(member.slot));
         expect("their number", present.size(), members.size());
-        expect("slots for all of them", true, members.size() <= members.slots());
+    }
+
+    private List<Member<Object>> found() {
+        return present.stream().map(member -> members.nextSought()).collect(Collectors.toList());
+    }
+
+    /** A search finds all by their ids, and goes on at the first one; also if the one that it looks at next is removed meanwhile. */
+    private void search() {
+        members.search();
+        expect("a search", present, found());
+        expect("a search that goes on", present, found());
+        for (int position = present.size() - 1; position > 0; position -= Math.max(1, present.size() / 3)) {
+            members.search();
+            for (int number = 0; number < position; number++) {
+                members.nextSought();
+            }
+            removeAt(position);
+            expect("the next one", present.get(position < present.size() ? position : 0), members.nextSought());
+        }
     }
 }

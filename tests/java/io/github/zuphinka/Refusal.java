@@ -20,6 +20,9 @@ public final class Refusal {
     /** Returns whether the allocation was not yet asked for. */
     public static native boolean isPending();
 
+    /** Returns how often the core was asked whether an object is lent. */
+    public static native long questions();
+
     /** Changes the current folder to one whose path has no characters but those of ASCII, and returns whether that was possible. */
     public static boolean enter(Path folder) {
         return enter((folder + "\0").getBytes(StandardCharsets.US_ASCII));

@@ -28,6 +28,8 @@ final class Call<T> {
     /** The settings by which it goes on, or has the object that an eviction run examines; and whether new objects are tested, when it began. */
     CoreSettings<T> settings;
     boolean testsOnCreate;
+    /** How many objects an eviction run tests yet; it looks at the ages of the others. */
+    long testsLeft;
     /** How many objects were idle when an eviction run took its object, if the user has an eviction policy. */
     long idle;
     /** Whether that was activated for the call; or is to be lent without that, once a new one passed its test of testOnCreate. */
@@ -43,10 +45,15 @@ final class Call<T> {
     Throwable destroyFault;
     /** The first error of the factory, which the call throws at its end. */
     Error error;
+    /** What a borrow found that got no object. */
+    final Shortage shortage = new Shortage();
     /** Why the call cannot go on: it is interrupted, or the journal has no room. */
     Throwable obstacle;
-    /** The abandoned objects that it took from their holders, to be destroyed: the first one, which knows the next. */
+    /** The abandoned objects that it took from their holders, to be destroyed: the first one, which knows the next, and the last. */
     Member<T> reclaimed;
+    private Member<T> lastReclaimed;
+    /** Whether it took any, also if they are destroyed. */
+    boolean hasReclaimed;
 
     /** The journal, when it had no room: how often it was cut, and whether the pool refuses the call whatever room there is. */
     long cuts;
@@ -81,6 +88,7 @@ final class Call<T> {
         isActivated = false;
         isGivenUp = false;
         hasFreed = false;
+        hasReclaimed = false;
         isRefused = false;
         thread = null;
         return this;
@@ -94,6 +102,7 @@ final class Call<T> {
         destroyFault = null;
         error = null;
         obstacle = null;
+        lastReclaimed = null;
         thread = null;
     }
 
@@ -124,7 +133,12 @@ final class Call<T> {
         if (!some.config.getBlockWhenExhausted()) {
             return 0;
         }
-        return left(moreMillis > 0 ? limitNanos : Math.min(limitNanos, some.maxWaitNanos));
+        return left(limit(some));
+    }
+
+    /** Returns for how many nanoseconds a borrow may wait in all, by these settings. */
+    long limit(CoreSettings<?> some) {
+        return moreMillis > 0 ? limitNanos : Math.min(limitNanos, some.maxWaitNanos);
     }
 
     /** Keeps the first error; returns whether it is this failure. */
@@ -136,20 +150,14 @@ final class Call<T> {
         return false;
     }
 
-    /** Takes an object that was reclaimed, to be destroyed in the order of their ids. */
+    /** Takes an object that was reclaimed, to be destroyed after those before it. */
     void reclaim(Member<T> object) {
-        Member<T> before = null;
-        Member<T> after = reclaimed;
-        while (after != null && after.id < object.id) {
-            before = after;
-            after = after.next;
-        }
-        object.next = after;
-        if (before == null) {
+        if (reclaimed == null) {
             reclaimed = object;
         } else {
-            before.next = object;
+            lastReclaimed.next = object;
         }
+        lastReclaimed = object;
     }
 
     /** Returns whether the call has to be given up: a borrow whose work ended in an error looks for no other object. */

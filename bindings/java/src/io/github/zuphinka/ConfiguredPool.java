@@ -43,7 +43,7 @@ abstract class ConfiguredPool<T> {
      *     policy that cannot be made. Nothing changes, as for the others:
      * @throws IllegalStateException if the journal has no room
      * @throws OutOfMemoryError if there is no memory
-     * @throws StackOverflowError if the thread has less than 120 KiB of its stack left
+     * @throws StackOverflowError if the thread has too little of its stack left
      */
     public void reconfigure(GenericObjectPoolConfig<T> config, AbandonedConfig abandoned) {
         change(settings -> settings.with(config, abandoned));
@@ -330,6 +330,28 @@ abstract class ConfiguredPool<T> {
      */
     public void setEvictionPolicy(EvictionPolicy<T> value) {
         set(config -> config.setEvictionPolicy(value));
+    }
+
+    /**
+     * Returns the age at which objects are destroyed.
+     *
+     * @return a time; 0 or negative, as by default: at none
+     */
+    public Duration getMaxLifetime() {
+        return settings().lifetime;
+    }
+
+    /**
+     * Sets the age at which objects are destroyed: at their return, and by eviction runs while they are idle. No object is taken from its holder.
+     *
+     * <p>Eviction runs then examine all idle objects. They test as many of them as {@code numTestsPerEvictionRun} says if {@code testWhileIdle} is set, and
+     * look at the age of the others. The age is a failed test in the journal, and {@link ZuphinkaPool#getSettingsText} has {@code testWhileIdle = true} and
+     * {@code numTestsPerEvictionRun = -1}. {@link #setConfig} and {@link #reconfigure} leave it as it is.
+     *
+     * @param value a time; 0 or negative: at none
+     */
+    public void setMaxLifetime(Duration value) {
+        change(settings -> settings.withLifetime(value));
     }
 
     /**

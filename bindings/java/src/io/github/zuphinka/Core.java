@@ -135,8 +135,8 @@ final class Core {
     /** Returns the details of the last reply, in the order of bytes of the machine, valid until the core is freed; null if there is no memory. */
     static native ByteBuffer details(long core);
 
-    /** Returns whether the thread has enough stack for a call of the pool. The caller needs no lock. */
-    static native boolean hasStack();
+    /** Returns how many bytes of its stack the thread has left, those included that the virtual machine keeps for itself. The caller needs no lock. */
+    static native long stackLeft();
 
     /** Begins a call. */
     static native long begin(long core, long at, long id, long token, int caller, int kind);

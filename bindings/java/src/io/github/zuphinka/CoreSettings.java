@@ -22,6 +22,9 @@ final class CoreSettings<T> {
     /** The user's eviction policy, with the idle times that it gets; null: that of the core. With it the core evicts by no time, and tests each object. */
     final UserPolicy<T> policy;
     private final long journalLimit;
+    /** The age at which objects are destroyed; 0 or negative: at none. Then {@link Long#MAX_VALUE} nanoseconds. */
+    final Duration lifetime;
+    private final long lifetimeNanos;
     final boolean testOnBorrow;
     final boolean testOnReturn;
     final boolean testWhileIdle;
@@ -41,13 +44,15 @@ final class CoreSettings<T> {
      *
      * @throws IllegalArgumentException if they ask for what the pool does not have, with the name of the property
      */
-    CoreSettings(GenericObjectPoolConfig<T> config, AbandonedConfig abandoned, long journalLimit) {
+    CoreSettings(GenericObjectPoolConfig<T> config, AbandonedConfig abandoned, long journalLimit, Duration lifetime) {
         if (journalLimit < 1 || journalLimit > MOST_ENTRIES) {
             throw new IllegalArgumentException("journal limit: " + journalLimit + " is not from 1 to " + MOST_ENTRIES);
         }
         this.config = config.clone();
         this.abandoned = AbandonedConfig.copy(abandoned);
         this.journalLimit = journalLimit;
+        this.lifetime = lifetime;
+        lifetimeNanos = lifetime.isNegative() || lifetime.isZero() ? Long.MAX_VALUE : Maintenance.nanos(lifetime);
         policy = UserPolicy.of(this.config);
         if (policy != null) {
             this.config.setEvictionPolicy(policy.policy); // a copy with other values has the same one, and makes none of its name
@@ -76,7 +81,33 @@ final class CoreSettings<T> {
     CoreSettings<T> with(GenericObjectPoolConfig<T> otherConfig, AbandonedConfig otherAbandoned) {
         GenericObjectPoolConfig<T> copied = otherConfig.clone();
         copied.setFairness(config.getFairness());
-        return new CoreSettings<>(copied, otherAbandoned, journalLimit);
+        return new CoreSettings<>(copied, otherAbandoned, journalLimit, lifetime);
+    }
+
+    /** Returns the same settings with another lifetime of objects. */
+    CoreSettings<T> withLifetime(Duration other) {
+        return new CoreSettings<>(config, abandoned, journalLimit, other);
+    }
+
+    /** Returns whether objects are destroyed for their age. */
+    boolean hasLifetime() {
+        return lifetimeNanos < Long.MAX_VALUE;
+    }
+
+    /** Returns whether an object has reached the age at which it is destroyed, at a time of {@link System#nanoTime}. */
+    boolean isTooOld(Member<T> member, long nanoTime) {
+        return hasLifetime() && nanoTime - member.madeAt >= lifetimeNanos;
+    }
+
+    /** Returns whether an eviction run of the core tests each object, since not only the core says which ones it destroys. */
+    boolean examines() {
+        return policy != null || hasLifetime();
+    }
+
+    /** Returns how many objects an eviction run tests, of so many idle ones. */
+    long testsOf(long idle) {
+        long tests = config.getNumTestsPerEvictionRun();
+        return tests >= 0 ? tests : (idle - tests - 1) / -tests;
     }
 
     /** Returns whether objects can be abandoned. */
@@ -93,12 +124,12 @@ final class CoreSettings<T> {
                 + key("maxWaitMillis", maxWaitMillis)
                 + key("minEvictableIdleMillis", policy == null ? millis(config.getMinEvictableIdleDuration(), -1) : -1)
                 + key("minIdle", Math.max(0, config.getMinIdle()))
-                + key("numTestsPerEvictionRun", config.getNumTestsPerEvictionRun())
+                + key("numTestsPerEvictionRun", hasLifetime() ? -1 : config.getNumTestsPerEvictionRun())
                 + key("softMinEvictableIdleMillis", policy == null ? millis(config.getSoftMinEvictableIdleDuration(), -1) : -1)
                 + key("testOnBorrow", testOnBorrow)
                 + key("testOnCreate", config.getTestOnCreate())
                 + key("testOnReturn", testOnReturn)
-                + key("testWhileIdle", testWhileIdle || policy != null);
+                + key("testWhileIdle", testWhileIdle || examines());
     }
 
     private String textOfAbandoned() {

@@ -8,7 +8,8 @@ import java.util.concurrent.ConcurrentHashMap;
 
 /**
  * The core of a pool, which is freed once nobody has the pool, when another pool is opened. No thread waits for that. It would have a task of this
- * library's class loader, and so keep all classes of that, and a pool that one of these has.
+ * library's class loader, and so keep all classes of that, and a pool that one of these has. With that class loader the native library is unloaded, which
+ * frees the cores that are left.
  */
 final class Cores extends PhantomReference<Sections<?>> {
     private static final ReferenceQueue<Sections<?>> UNUSED = new ReferenceQueue<>();

@@ -102,4 +102,16 @@ public final class Counts {
     public long room() {
         return numbers[9];
     }
+
+    /**
+     * Returns all counts with their names.
+     *
+     * @return a text in one line
+     */
+    @Override
+    public String toString() {
+        return "Counts[steps " + steps() + ", idle " + idle() + ", lent " + lent() + ", reserved " + reserved() + ", created " + created()
+                + ", destroyed " + destroyed() + ", evicted " + evicted() + ", reclaimed " + reclaimed() + ", entries " + entries() + ", room " + room()
+                + "]";
+    }
 }

@@ -18,7 +18,7 @@ final class Ends {
                 checkClosed(call);
                 return;
             case Core.END_EXHAUSTED:
-                throw new NoSuchElementException("Pool exhausted");
+                throw new NoSuchElementException(call.shortage.exhausted());
             case Core.END_TIMED_OUT:
             case Core.END_CANCELLED:
                 throw timedOut(call);
@@ -80,7 +80,7 @@ final class Ends {
     /** Returns the exception for a borrow whose time is over. If its thread is interrupted it ends by that, also if it may not wait. */
     private static Exception timedOut(Call<?> call) {
         boolean isInterrupted = Thread.interrupted() || call.obstacle != null;
-        return isInterrupted ? new InterruptedException() : new NoSuchElementException("Timeout waiting for idle object");
+        return isInterrupted ? new InterruptedException() : new NoSuchElementException(call.shortage.timeout());
     }
 
     static void throwError(Throwable failure) {

@@ -27,7 +27,7 @@ final class JournalRoom {
     static void require(CoreSettings<?> settings, Journal journal) {
         long wanted = settings.maxTotal < 0 ? 1 : settings.maxTotal;
         boolean isLimited = journal.limit < CoreSettings.MOST_ENTRIES && wanted > 0;
-        if (isLimited && mostLent(settings, journal.sink != null || journal.isDropped) < wanted) {
+        if (isLimited && mostLent(settings, journal.isStored() || journal.isDropped) < wanted) {
             String total = " is reached before all objects are lent (maxTotal " + settings.maxTotal + ")";
             throw new IllegalArgumentException("journal limit: " + journal.limit + total);
         }

@@ -56,7 +56,7 @@ public final class Lease<T> implements AutoCloseable {
      * #close} has no effect.
      *
      * @throws IllegalStateException if the lease is over
-     * @throws StackOverflowError if the thread has less than 120 KiB of its stack left: then the lease is not over, and may be ended later
+     * @throws StackOverflowError if the thread has too little of its stack left: then the lease is not over, and may be ended later
      * @throws OutOfMemoryError if the heap of the virtual machine is full: the same, unless the object is destroyed
      * @throws Exception if the factory fails to destroy the object. Its place is free all the same, and the lease is over
      */
@@ -69,7 +69,7 @@ public final class Lease<T> implements AutoCloseable {
     /**
      * Returns the object and ends the lease, as {@link ZuphinkaPool#returnObject}. It has no effect if the lease is over.
      *
-     * @throws StackOverflowError if the thread has less than 120 KiB of its stack left: then the lease is not over, and may be ended later
+     * @throws StackOverflowError if the thread has too little of its stack left: then the lease is not over, and may be ended later
      * @throws OutOfMemoryError if the heap of the virtual machine is full: the same, unless the object is destroyed
      */
     @Override

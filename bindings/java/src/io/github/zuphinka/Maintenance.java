@@ -5,14 +5,20 @@ import java.time.Duration;
 import java.util.List;
 import java.util.concurrent.TimeUnit;
 import java.util.concurrent.locks.LockSupport;
+import java.util.function.BooleanSupplier;
 
 /**
  * A daemon thread that maintains a pool from time to time. It ends with the pool: when that is closed, or no longer used. It is never interrupted,
  * since an interrupt would close each channel that the factory uses meanwhile.
  */
 final class Maintenance implements Runnable {
+    /** For how long to wait for the end of such threads at least and at most: all times are settings, some of more nanoseconds than a number has. */
+    private static final Duration SHORTEST_END = Duration.ofMillis(1);
+    private static final Duration LONGEST_END = Duration.ofDays(1);
+
     private final WeakReference<ZuphinkaPool<?>> pool;
     private final WeakReference<ClassLoader> context;
+    private final Round round;
     final Duration pause;
     private final long pauseNanos;
     private final Thread thread;
@@ -20,29 +26,51 @@ final class Maintenance implements Runnable {
 
     /** What tells such a thread from others. */
     private static final class Maintainer extends Thread {
-        Maintainer(Runnable run) {
-            super(run, "zuphinka-maintenance");
+        Maintainer(Runnable run, String name) {
+            super(run, name);
         }
     }
 
-    private Maintenance(ZuphinkaPool<?> pool, Duration pause, WeakReference<ClassLoader> context) {
-        this.pool = new WeakReference<>(pool);
-        this.context = context;
-        this.pause = pause;
-        pauseNanos = pause.getSeconds() >= TimeUnit.DAYS.toSeconds(10_000) ? Long.MAX_VALUE : Math.max(1, pause.toNanos());
-        thread = new Maintainer(this);
-        thread.setDaemon(true);
-        thread.setContextClassLoader(null);
+    /** What the thread does for the pool from time to time. */
+    interface Round {
+        void run(ZuphinkaPool<?> pool) throws Exception;
     }
 
-    /** Starts the thread, which has a class loader as that of its context while it maintains the pool. It first waits for the pause. */
+    private Maintenance(ZuphinkaPool<?> pool, Duration pause, WeakReference<ClassLoader> context, String name, Round round) {
+        this.pool = new WeakReference<>(pool);
+        this.context = context;
+        this.round = round;
+        this.pause = pause;
+        pauseNanos = nanos(pause);
+        thread = thread(this, name);
+    }
+
+    /** Returns a daemon thread of a pool, which keeps no class loader. */
+    static Thread thread(Runnable run, String name) {
+        Thread made = new Maintainer(run, name);
+        made.setDaemon(true);
+        made.setContextClassLoader(null);
+        return made;
+    }
+
+    /** Returns the nanoseconds of a time, or no limit for one that is very long. */
+    static long nanos(Duration time) {
+        return time.getSeconds() >= TimeUnit.DAYS.toSeconds(10_000) ? Long.MAX_VALUE : Math.max(1, time.toNanos());
+    }
+
+    /** Starts a thread that maintains the pool. */
     static Maintenance start(ZuphinkaPool<?> pool, Duration pause, WeakReference<ClassLoader> context) {
-        Maintenance maintenance = new Maintenance(pool, pause, context);
+        return start(pool, pause, context, "zuphinka-maintenance", ZuphinkaPool::maintain);
+    }
+
+    /** Starts a thread with a name, which has a class loader as that of its context in each round. It first waits for the pause. */
+    static Maintenance start(ZuphinkaPool<?> pool, Duration pause, WeakReference<ClassLoader> context, String name, Round round) {
+        Maintenance maintenance = new Maintenance(pool, pause, context, name, round);
         maintenance.thread.start();
         return maintenance;
     }
 
-    /** Returns whether the current thread maintains a pool. */
+    /** Returns whether the current thread is one of a pool. */
     static boolean isCurrent() {
         return Thread.currentThread() instanceof Maintainer;
     }
@@ -50,15 +78,15 @@ final class Maintenance implements Runnable {
     @Override
     public void run() {
         do {
-            pause();
+            pause(pauseNanos, () -> isStopped);
         } while (!isStopped && maintainOnce());
     }
 
-    /** Pauses between two rounds, or until the thread is to end. It needs no memory. */
-    private void pause() {
+    /** Pauses between two rounds, or until the thread is unparked and is to go on. It needs no memory. */
+    static void pause(long nanos, BooleanSupplier isOver) {
         long begun = System.nanoTime();
-        for (long left = pauseNanos; left > 0 && !isStopped; left = pauseNanos - (System.nanoTime() - begun)) {
-            LockSupport.parkNanos(this, left);
+        for (long left = nanos; left > 0 && !isOver.getAsBoolean(); left = nanos - (System.nanoTime() - begun)) {
+            LockSupport.parkNanos(isOver, left);
             Thread.interrupted(); // the factory may have interrupted the thread, which then cannot pause
         }
     }
@@ -71,7 +99,7 @@ final class Maintenance implements Runnable {
         }
         thread.setContextClassLoader(context.get());
         try {
-            kept.maintain();
+            round.run(kept);
         } catch (Exception | Error e) {
             if (!kept.isClosed()) {
                 kept.swallow(e);
@@ -92,13 +120,17 @@ final class Maintenance implements Runnable {
         return !thread.isAlive();
     }
 
-    /** Waits for the ends of threads, up to a time and a day at most for all of them. One of them waits for none, since another may wait for it. */
+    /**
+     * Waits for the ends of threads, up to a time for all of them: a millisecond at least, and a day at most. One of them waits for none, since another
+     * may wait for it.
+     */
     static void await(List<Maintenance> ending, Duration longest) {
         if (ending.stream().anyMatch(each -> each.thread == Thread.currentThread())) {
             return;
         }
         long begun = System.nanoTime();
-        long nanos = TimeUnit.MILLISECONDS.toNanos(longest.toDays() > 0 ? TimeUnit.DAYS.toMillis(1) : Math.max(1, longest.toMillis()));
+        Duration bounded = longest.compareTo(SHORTEST_END) < 0 ? SHORTEST_END : longest.compareTo(LONGEST_END) > 0 ? LONGEST_END : longest;
+        long nanos = bounded.toNanos();
         try {
             for (Maintenance each : ending) {
                 TimeUnit.NANOSECONDS.timedJoin(each.thread, nanos - (System.nanoTime() - begun));

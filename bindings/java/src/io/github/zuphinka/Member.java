@@ -16,13 +16,18 @@ final class Member<T> {
     /** Whether its wrapper is told of each loan whatever the settings are; and whether it is told of the loan that there is. */
     boolean isWrapperTold;
     boolean isLoanTold;
-    /** The last use of which the core knows, besides the loans; null if there was none. */
-    volatile Instant used;
+    /** When it said that it was last used, as it was lent or last asked; null if it was not asked. */
+    volatile Instant reported;
+    /** Who has borrowed it, if the pool looks for leaks. */
+    volatile Lender lender;
+    /** When it was made, by {@link System#nanoTime}. */
+    long madeAt;
     /** Whether a call destroys it, or did. It is set by the one call that has it, or with the lock as it is reclaimed. */
     boolean isGone;
     /** Why the last work of the factory on it failed; null if it did not. Only a pair of two steps notes it. */
     Throwable fault;
-    /** The next one of those that a call reclaimed. */
+    /** The ones before it and after it, of those that have a place; or the next one of those that a call reclaimed. */
+    Member<T> previous;
     Member<T> next;
 
     // The lock of the pool protects what follows.
@@ -50,6 +55,11 @@ final class Member<T> {
         usedAt = nanoTime;
     }
 
+    /** Returns which loan it is. The thread that has the object needs no lock. */
+    long loanNumber() {
+        return loans;
+    }
+
     void giveBack(long nanoTime) {
         isLent = false;
         returnedAt = nanoTime;
@@ -74,9 +84,9 @@ final class Member<T> {
         return isLent && nanoTime - usedAt > 0;
     }
 
-    /** Returns for how many nanoseconds its holder has not used it, as far as the core knows. Without the lock it may be some other time. */
-    long unusedNanos(long nanoTime) {
-        return nanoTime - usedAt;
+    /** Returns when it was last lent or used, by {@link System#nanoTime}, as far as the core knows. Without the lock it may be some other time. */
+    long usedAt() {
+        return usedAt;
     }
 
     /** Returns its loans until now. */

@@ -2,15 +2,23 @@ package io.github.zuphinka;
 
 import java.util.Arrays;
 
-/** The objects that have a place, by their slots, which are their tokens in the core. The caller holds the lock of the pool. */
+/**
+ * The objects that have a place, by their slots, which are their tokens in the core, and in the order of their ids. The caller holds the lock of the
+ * pool.
+ */
 final class Members<T> {
     private static final int FIRST_SLOTS = 8;
     @SuppressWarnings({"unchecked", "rawtypes"})
     private Member<T>[] slots = new Member[0];
     private int[] freeSlots = new int[0];
     private int free;
+    /** The first and the last by their ids. Each knows the one before it and the next. */
+    private Member<T> first;
+    private Member<T> last;
+    /** Which one a search looks at next; null: the first. */
+    private Member<T> sought;
 
-    /** Adds an object with this id. */
+    /** Adds an object with this id, which is greater than those before it. */
     Member<T> add(long id) {
         if (free == 0) {
             grow();
@@ -18,6 +26,13 @@ final class Members<T> {
         Member<T> member = new Member<>(freeSlots[free - 1], id);
         free--;
         slots[member.slot] = member;
+        member.previous = last;
+        if (last == null) {
+            first = member;
+        } else {
+            last.next = member;
+        }
+        last = member;
         return member;
     }
 
@@ -37,6 +52,35 @@ final class Members<T> {
     void remove(Member<T> member) {
         slots[member.slot] = null;
         freeSlots[free++] = member.slot;
+        unlink(member);
+    }
+
+    private void unlink(Member<T> member) {
+        if (member.previous == null) {
+            first = member.next;
+        } else {
+            member.previous.next = member.next;
+        }
+        if (member.next == null) {
+            last = member.previous;
+        } else {
+            member.next.previous = member.previous;
+        }
+        sought = sought == member ? member.next : sought;
+        member.previous = null;
+        member.next = null;
+    }
+
+    /** Begins a search at the first object. */
+    void search() {
+        sought = first;
+    }
+
+    /** Returns the next object of a search, which goes on at the first one after the last. There is one. */
+    Member<T> nextSought() {
+        Member<T> found = sought == null ? first : sought;
+        sought = found.next;
+        return found;
     }
 
     /** Returns the object with this token. */
@@ -47,10 +91,5 @@ final class Members<T> {
     /** Returns the number of objects. */
     int size() {
         return slots.length - free;
-    }
-
-    /** Returns how many slots there are. */
-    int slots() {
-        return slots.length;
     }
 }

@@ -1,8 +1,12 @@
 package io.github.zuphinka;
 
 import java.io.IOException;
+import java.io.UncheckedIOException;
 import java.lang.ref.Reference;
+import java.lang.ref.WeakReference;
 import java.nio.ByteBuffer;
+import java.nio.file.Path;
+import java.time.Instant;
 import java.util.concurrent.TimeUnit;
 import java.util.concurrent.atomic.AtomicReference;
 import java.util.concurrent.locks.LockSupport;
@@ -19,16 +23,22 @@ final class Sections<T> {
     private static final long NANOS_OF_MILLI = 1_000_000;
 
     private final Work<T> work;
+    final TrackedUses<T> uses;
     private final boolean isFair;
     /** They change with the lock. */
     private volatile CoreSettings<T> settings;
     private volatile boolean isClosed;
     private final long start = System.nanoTime();
+    private final long neededStack;
+    /** The time of day at which the time of the core is 0. */
+    private final Instant zero = Instant.now();
     private final ReentrantLock lock = new ReentrantLock();
     private final BooleanSupplier isTaken = () -> lock.isLocked() || !lock.tryLock();
     /** A call for the next one: a new one, which has its classes initialized, as would fail for good on a full stack; later one that is over. */
     private final AtomicReference<Call<T>> spare = new AtomicReference<>(new Call<>());
 
+    /** What tells the pool from others in messages. */
+    private volatile String name = "";
     /** Set before a close stores the rest of the journal. */
     private volatile boolean isEnding;
 
@@ -36,6 +46,12 @@ final class Sections<T> {
     private final long core;
     private final ByteBuffer details;
     private final StoredJournal journal;
+    /** The names of the callers, for the journal; null if that has none. */
+    private final CallerNames names;
+    /** Where the journal is; null if it is in no folder of its own. */
+    private final SegmentFolder folder;
+    /** Stores the entries from time to time; null if nothing does. It does not change once the pool is made. */
+    private volatile Flusher flusher;
     private final Members<T> members = new Members<>();
     private final Waiters waiters = new Waiters();
     /** The thread that is to be unparked once the lock is free; null if there is none. */
@@ -60,17 +76,62 @@ final class Sections<T> {
     Sections(CoreSettings<T> settings, Journal journal, Work<T> work) {
         this.settings = settings;
         this.work = work;
+        uses = new TrackedUses<>(this, work);
         isFair = settings.config.getFairness();
         JournalRoom.require(settings, journal);
         Callers.load();
         Pauses.load();
+        neededStack = NeededStack.bytes();
         maxOvertakes = isFair ? 0 : CoreSettings.DEFAULT_OVERTAKES;
         overtakes = maxOvertakes;
         long opened = JournalRoom.open(settings, work.flags() | settings.flags(), maxOvertakes);
         core = opened;
         Cores.register(this, opened);
         details = JournalRoom.detailsOf(opened);
-        this.journal = new StoredJournal(core, journal, settings);
+        names = journal.names();
+        SegmentSink sink = sinkOf(journal);
+        folder = sink instanceof SegmentFolder ? (SegmentFolder) sink : null;
+        this.journal = new StoredJournal(core, journal, sink, settings);
+    }
+
+    private SegmentSink sinkOf(Journal journal) {
+        try {
+            return journal.open(zero, names);
+        } catch (IOException e) {
+            throw new UncheckedIOException(e);
+        }
+    }
+
+    /** Has the entries stored from time to time, if the journal is to have that, by a thread with a class loader as that of its context. */
+    void startFlusher(Journal of, WeakReference<ClassLoader> context) {
+        if (of.isFlushed()) {
+            flusher = new Flusher(this, of.flush, context);
+            flusher.start();
+        }
+    }
+
+    /** Leaves nothing of a pool that could not be made. */
+    void undo() {
+        isClosed = true;
+        if (flusher != null) {
+            flusher.wake();
+        }
+        if (folder != null) {
+            folder.remove();
+        }
+    }
+
+    void setName(String given) {
+        name = given;
+    }
+
+    String name() {
+        return name;
+    }
+
+    /** Returns where the journal is; null if it is in no folder. */
+    Path folder() {
+        return folder == null ? null : folder.folder;
     }
 
     // The lock.
@@ -85,8 +146,8 @@ final class Sections<T> {
         acquire();
     }
 
-    private static void requireStack() {
-        if (!Core.hasStack()) {
+    private void requireStack() {
+        if (Core.stackLeft() < neededStack) {
             throw new StackOverflowError("zuphinka: too little stack");
         }
     }
@@ -117,12 +178,17 @@ final class Sections<T> {
     private void release() {
         Thread next = woken;
         woken = null;
+        boolean isLate = false;
         try {
             journal.cutIfLow(members.size());
+            isLate = isEnding && journal.hasEntries();
         } finally {
             lock.unlock();
             LockSupport.unpark(next);
             Reference.reachabilityFence(this);
+        }
+        if (isLate) {
+            flushLater();
         }
     }
 
@@ -130,6 +196,13 @@ final class Sections<T> {
     private <R> R locked(Supplier<R> section) {
         requireStack();
         return completing(section);
+    }
+
+    private void completing(Runnable section) {
+        completing(() -> {
+            section.run();
+            return null;
+        });
     }
 
     /** Returns the result of a section that completes a call. */
@@ -151,6 +224,20 @@ final class Sections<T> {
     private long timeOf(long nanoTime) {
         latest = Math.max(latest, millis(nanoTime));
         return latest;
+    }
+
+    /** Returns the number of this thread in a section that begins a call. */
+    private int caller() {
+        int caller = Callers.number();
+        see(caller);
+        return caller;
+    }
+
+    /** Has the name of this thread stored beside its number. */
+    private void see(int caller) {
+        if (names != null) {
+            names.see(caller);
+        }
     }
 
     // Calls that are over at once.
@@ -219,9 +306,8 @@ final class Sections<T> {
         return true;
     }
 
-    /** Tests and passivates an object that was taken back. It is idle then, or destroyed. */
-    private void putAway(Member<T> member, CoreSettings<T> of, int caller) {
-        int outcome = work.putAway(member, of);
+    /** Completes the return of an object that was taken back, and then tested and passivated with this outcome. It is idle, or destroyed. */
+    private void putAway(Member<T> member, int outcome, int caller) {
         long now = System.nanoTime();
         acquire();
         try {
@@ -286,9 +372,11 @@ final class Sections<T> {
 
     /** Begins a call in a section that has the lock. */
     private void beginCall(Call<T> call) {
+        see(call.caller);
         Member<T> member = call.member;
         call.settings = settings;
         call.testsOnCreate = settings.config.getTestOnCreate();
+        call.testsLeft = call.kind == Core.KIND_EVICT && settings.hasLifetime() ? settings.testsOf(journal.latest().idle()) : Long.MAX_VALUE;
         long id = member == null ? call.moreMillis : member.id;
         long reply = Core.begin(core, timeOf(call.first), id, member == null ? 0 : member.slot, call.caller, call.kind);
         if (reply == Core.STATUS_OUT_OF_MEMORY) {
@@ -329,14 +417,19 @@ final class Sections<T> {
         }
     }
 
-    /** Sleeps until a call is to look again, or to be given up: also if there is no memory. Returns the report. */
+    /** Sleeps until a call is to look again, or to be given up: also if an error stops its thread. Returns the report. */
     private int sleep(Call<T> call) {
         try {
             return slept(call);
-        } catch (OutOfMemoryError e) {
-            call.keepsError(e);
-            return call.giveUp();
+        } catch (Error e) {
+            return stopped(call, e);
         }
+    }
+
+    /** Gives a call up whose thread is stopped by an error, as for lack of memory, which it throws at its end. */
+    private static int stopped(Call<?> call, Error error) {
+        call.keepsError(error);
+        return call.giveUp();
     }
 
     private int slept(Call<T> call) {
@@ -356,8 +449,19 @@ final class Sections<T> {
 
     /** Reports what came of the last action, and takes up what the call does next. */
     private void advance(Call<T> call, int report) {
-        while (!hasAdvanced(call, report)) {
+        int latest = report;
+        while (!hasAdvanced(call, latest)) {
+            latest = waited(call, latest);
+        }
+    }
+
+    /** Waits until the time of an early call is over. Returns its report. */
+    private int waited(Call<T> call, int report) {
+        try {
             LockSupport.parkNanos(call, call.left(call.untilNanos));
+            return report;
+        } catch (Error e) {
+            return stopped(call, e);
         }
     }
 
@@ -488,7 +592,7 @@ final class Sections<T> {
             case Core.ACTION_PASSIVATE:
             case Core.ACTION_DESTROY:
                 takeObject(call, Core.token(reply));
-                call.idle = call.settings.policy != null && call.kind == Core.KIND_EVICT ? journal.counts().idle() : 0;
+                call.idle = call.settings.policy != null && call.kind == Core.KIND_EVICT ? journal.latest().idle() : 0;
                 break;
             default:
                 if (call.end == Core.END_LENT) {
@@ -518,18 +622,26 @@ final class Sections<T> {
         }
     }
 
-    /** Takes the objects that were reclaimed from their holders. They are to be destroyed by the call, in the order of their ids. */
+    /**
+     * Takes the objects that were reclaimed from their holders by the last steps of a call, which is to destroy them, in the order of their ids. A call
+     * looks on from where it found the last ones: it took those with smaller ids before, except for those that were abandoned only since then.
+     */
     private void takeReclaimed(Call<T> call) {
-        for (int slot = members.slots() - 1; slot >= 0; slot--) {
-            Member<T> member = members.at(slot);
-            if (member != null && member.isLent() && !Core.isLent(core, member.id)) {
+        long total = details.getLong(Core.RECLAIMED);
+        if (!call.hasReclaimed) {
+            call.hasReclaimed = true;
+            members.search();
+        }
+        for (int left = members.size(); left > 0 && reclaimed < total; left--) {
+            Member<T> member = members.nextSought();
+            if (member.isLent() && !Core.isLent(core, member.id)) {
                 member.isGone = true;
                 member.end();
                 members.remove(member);
                 call.reclaim(member);
+                reclaimed++;
             }
         }
-        reclaimed = details.getLong(Core.RECLAIMED);
     }
 
     /** Notes the end of a loan, if the core took the object back. */
@@ -564,7 +676,11 @@ final class Sections<T> {
         if (call.end == Core.END_NOTED) {
             call.member.use(now);
         }
-        if (call.kind == Core.KIND_BORROW && (call.end == Core.END_TIMED_OUT || call.end == Core.END_CANCELLED)) {
+        boolean isTimedOut = call.end == Core.END_TIMED_OUT || call.end == Core.END_CANCELLED;
+        if (call.kind == Core.KIND_BORROW && (isTimedOut || call.end == Core.END_EXHAUSTED)) {
+            call.shortage.note(name, call, journal.latest(), waiters.size(), settings);
+        }
+        if (call.kind == Core.KIND_BORROW && isTimedOut) {
             boolean isOther = call.error != null || call.obstacle != null || Thread.currentThread().isInterrupted();
             timeouts += isOther ? 0 : 1;
         }
@@ -626,7 +742,7 @@ final class Sections<T> {
             if (call.isRefused || journal.isKept()) {
                 throw new IllegalStateException("Journal full");
             }
-            if (journal.isPending()) {
+            if (!journal.mayBeCut()) {
                 storePending(call);
             }
             cutFull(call.cuts);
@@ -634,7 +750,7 @@ final class Sections<T> {
         } catch (InterruptedException e) {
             call.obstacle = e;
             return call.giveUp();
-        } catch (IllegalStateException | OutOfMemoryError e) {
+        } catch (IllegalStateException | Error e) {
             call.obstacle = e;
             return Core.REPORT_NO_ROOM;
         }
@@ -686,7 +802,7 @@ final class Sections<T> {
             throw new IllegalStateException("Journal full", e);
         }
         if (!hasStored && journal.cuts() == call.cuts) {
-            throw new IllegalStateException("Journal full");
+            throw new IllegalStateException("Journal full: its sink is slow, and has been storing a segment for " + journal.storingMillis() + " ms");
         }
     }
 
@@ -703,20 +819,23 @@ final class Sections<T> {
         Call<T> call = null;
         begin();
         try {
-            caller = Callers.number();
+            caller = caller();
             of = settings;
             isBare = work.isBorrowedBare(of);
             member = isBare ? lendAtOnce(first, caller) : takeIdle(first, caller);
-            if (member == null) {
+            if (member == null && !isToAskForUses()) {
                 call = begun(first, longestNanos);
             }
         } finally {
             release();
         }
-        if (call == null && (isBare || isReadied(member, of, first, caller))) {
+        if (member != null && (isBare || isReadied(member, of, first, caller))) {
             return member;
         }
-        Member<T> lent = lentBy(call == null ? begunLater(first, longestNanos) : call);
+        if (call == null) {
+            call = member == null ? begunAfterQuestions(first, longestNanos) : begunLater(first, longestNanos);
+        }
+        Member<T> lent = lentBy(call);
         while (lent == null) {
             lent = lentBy(begunLater(first, longestNanos));
         }
@@ -732,15 +851,38 @@ final class Sections<T> {
     }
 
     /** Begins a borrow again that has failed to make an object ready, or has lost one. */
-    private Call<T> begunLater(long first, long longestNanos) {
-        acquire();
-        try {
-            Call<T> call = begun(first, longestNanos);
-            call.limitNanos = longestNanos < 0 ? settings.maxWaitNanos : longestNanos; // the core counts from now on
-            return call;
-        } finally {
-            release();
+    private Call<T> begunLater(long first, long longestNanos) throws Exception {
+        Call<T> call = begunAfterQuestions(first, longestNanos);
+        call.limitNanos = longestNanos < 0 ? settings.maxWaitNanos : longestNanos; // the core counts from now on
+        return call;
+    }
+
+    /** Begins a borrow, once lent objects were asked when they were last used if it may reclaim them. */
+    private Call<T> begunAfterQuestions(long first, long longestNanos) throws Exception {
+        for (boolean hasAsked = false;; hasAsked = true) {
+            acquire();
+            try {
+                if (hasAsked || !isToAskForUses()) {
+                    return begun(first, longestNanos);
+                }
+            } finally {
+                release();
+            }
+            uses.note(Core.KIND_BORROW, first, longestNanos);
         }
+    }
+
+    /**
+     * Returns whether a borrow that begins now may reclaim objects that know themselves when they were last used: idle objects and places are scarce, or
+     * may be once the journal has room.
+     */
+    private boolean isToAskForUses() {
+        if (!settings.reclaimsOnBorrow || !work.hasTracked()) {
+            return false;
+        }
+        Counts now = journal.latest();
+        boolean isNearLimit = settings.maxTotal < 0 || now.lent() + now.reserved() > settings.maxTotal - 3;
+        return now.idle() < 2 && isNearLimit || now.room() == 0;
     }
 
     /** Follows a borrow to its end. Returns its object; null if that was taken from it while it destroyed the objects that it took itself. */
@@ -779,16 +921,17 @@ final class Sections<T> {
      * them.
      */
     boolean isGivenBack(Member<T> member, CoreSettings<T> of) {
-        boolean isBare = work.isReturnedBare(of);
-        int caller;
         long now = System.nanoTime();
+        boolean isTooOld = of.isTooOld(member, now);
+        boolean isBare = !isTooOld && work.isReturnedBare(of);
+        int caller;
         Call<T> call = null;
         begin();
         try {
             if (settings != of) {
                 return false;
             }
-            caller = Callers.number();
+            caller = caller();
             boolean isBegun = isBare ? takeBackAtOnce(member, now, caller) : isTaken(member, now, caller);
             if (!isBegun) {
                 call = call(Core.KIND_RETURN, now, member);
@@ -802,7 +945,7 @@ final class Sections<T> {
             Ends.checkUnchecked(call);
             leave(call);
         } else if (!isBare) {
-            putAway(member, of, caller);
+            putAway(member, isTooOld ? Core.OUTCOME_TEST_FAILED : work.putAway(member, of), caller);
         }
         return true;
     }
@@ -842,11 +985,11 @@ final class Sections<T> {
     }
 
     /**
-     * Returns whether a lent object is abandoned by now as far as the core knows, or may be until the core looks, at the latest after half of the time
-     * for that. It takes no lock.
+     * Returns whether a lent object that was last used at this time of {@link System#nanoTime} is abandoned by now, or may be until the core looks, at
+     * the latest after half of the time for that. It takes no lock.
      */
-    boolean isAbandoned(Member<T> member) {
-        return member.unusedNanos(System.nanoTime()) >= settings.abandonedNanos / 2 - 2 * NANOS_OF_MILLI;
+    boolean isSoonAbandoned(long usedAt) {
+        return System.nanoTime() - usedAt >= settings.abandonedNanos / 2 - 2 * NANOS_OF_MILLI;
     }
 
     /** Notes that the holder of an object last used it so many nanoseconds ago, for a borrow with a limit or another call. */
@@ -871,6 +1014,7 @@ final class Sections<T> {
             if (!member.isUsedBefore(used)) {
                 return true;
             }
+            see(call.caller);
             int status = Core.step(core, millis(used), member.id, 0, call.caller, Core.INPUT_USE, 0);
             if (status == Core.STATUS_JOURNAL_FULL) {
                 call.cuts = journal.cuts();
@@ -926,8 +1070,22 @@ final class Sections<T> {
 
     /** What is freed from now on is to be stored by the call that frees it: the pool is closed. */
     void endJournal() {
+        if (flusher != null) {
+            flusher.wake();
+        }
         isEnding = true;
         flush();
+    }
+
+    /** Has the entries of a closed pool stored that no call stores at once. A thread that cannot be started does not matter to the call. */
+    private void flushLater() {
+        try {
+            if (flusher != null) {
+                flusher.start();
+            }
+        } catch (OutOfMemoryError e) {
+            // A later entry starts it.
+        }
     }
 
     /** Stores the rest of the journal of a closed pool, once it has as many entries as objects are left: a segment has a line for each of these. */
@@ -936,11 +1094,7 @@ final class Sections<T> {
         if (counts.entries() < counts.lent() + counts.reserved()) {
             return;
         }
-        try {
-            flush();
-        } catch (OutOfMemoryError e) {
-            work.swallow(new IllegalStateException(e));
-        }
+        flushQuietly(Long.MAX_VALUE);
     }
 
     /** Does what {@link #flush} does for a call of its own, which is refused if the stack is too full: a lock would be kept. */
@@ -949,24 +1103,26 @@ final class Sections<T> {
         flush();
     }
 
-    /** Stores all entries of a journal that is stored. */
+    /** Stores all entries of a journal that is stored. It has no effect in a sink. */
     void flush() {
+        flush(Long.MAX_VALUE);
+    }
+
+    private void flush(long longestNanos) {
         try {
-            storeRest();
+            journal.storeAll(() -> completing(journal::cutRest), longestNanos);
         } catch (IOException | RuntimeException e) {
             work.swallow(e);
         }
     }
 
-    /** Cuts and stores the rest of a journal that is stored. It has no effect in a sink. */
-    private void storeRest() throws IOException {
-        if (journal.isInSink()) {
-            return;
+    /** Does the same for a call that is not to fail, unless another thread stores for longer than some nanoseconds. */
+    void flushQuietly(long longestNanos) {
+        try {
+            flush(longestNanos);
+        } catch (OutOfMemoryError e) {
+            work.swallow(new IllegalStateException(e));
         }
-        do {
-            journal.storePending();
-        } while (!completing(journal::isRestCut));
-        journal.storePending();
     }
 
     /** Stores the segment that waits, without the lock, if it is due. */
@@ -1005,6 +1161,9 @@ final class Sections<T> {
 
     /** Cuts the journal, and returns what was cut. */
     Segment cut() {
+        if (journal.isStored()) {
+            throw new UnsupportedOperationException("cut: this pool stores its journal; flushJournal stores what it has so far");
+        }
         return locked(journal::cutNow);
     }
 
@@ -1013,6 +1172,11 @@ final class Sections<T> {
     /** Returns the counts of the core. */
     Counts counts() {
         return locked(journal::counts);
+    }
+
+    /** Returns whether an object still has this loan. */
+    boolean isLent(Member<?> member, long loan) {
+        return locked(() -> member.isLent() && member.loanNumber() == loan);
     }
 
     /** Returns the loans of an object. */

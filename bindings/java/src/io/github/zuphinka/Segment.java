@@ -3,6 +3,7 @@ package io.github.zuphinka;
 import java.io.IOException;
 import java.io.OutputStream;
 import java.nio.ByteBuffer;
+import java.util.ArrayList;
 import java.util.List;
 
 /**
@@ -12,17 +13,32 @@ import java.util.List;
 public final class Segment {
     private final long position;
     private final long entries;
-    /** Its text, in order. No part is empty. */
-    final List<byte[]> parts;
+    /** The lines of its base, and those of its entries, in order. No part is empty. */
+    final List<byte[]> base;
+    final List<byte[]> lines;
     private final String settings;
+    /** How many entries were outstanding before its first one. */
+    final long outstanding;
+    /** How many bytes its text has. */
+    final long size;
     /** The next one of {@link Segments}. */
     Segment next;
 
-    Segment(long position, long entries, List<byte[]> parts, String settings) {
+    Segment(long position, long entries, List<byte[]> base, List<byte[]> lines, String settings, long outstanding) {
         this.position = position;
         this.entries = entries;
-        this.parts = parts;
+        this.base = base;
+        this.lines = lines;
         this.settings = settings;
+        this.outstanding = outstanding;
+        size = parts().stream().mapToLong(part -> part.length).sum();
+    }
+
+    /** Returns its text, in order. */
+    List<byte[]> parts() {
+        List<byte[]> parts = new ArrayList<>(base);
+        parts.addAll(lines);
+        return parts;
     }
 
     /**
@@ -49,25 +65,21 @@ public final class Segment {
      * @return a number from 0
      */
     public long size() {
-        return parts.stream().mapToLong(part -> part.length).sum();
+        return size;
     }
 
     /**
      * Returns its lines in ASCII: those of the base that its entries continue, and those of the entries. Each line ends in a line feed.
      *
-     * @return an array that is not to be changed. It may be that of the segment itself
+     * @return a new array
      * @throws IllegalStateException if the text has 2 GiB or more, which no array has; {@link #writeTo} writes it
      */
     public byte[] text() {
-        if (parts.size() == 1) {
-            return parts.get(0);
-        }
-        long size = size();
         if (size > Integer.MAX_VALUE) {
             throw new IllegalStateException("segment: " + size + " bytes are too many for an array, but not for writeTo");
         }
         ByteBuffer text = ByteBuffer.allocate((int) size);
-        parts.forEach(text::put);
+        parts().forEach(text::put);
         return text.array();
     }
 
@@ -78,7 +90,7 @@ public final class Segment {
      * @throws IOException if the stream fails
      */
     public void writeTo(OutputStream to) throws IOException {
-        for (byte[] part : parts) {
+        for (byte[] part : parts()) {
             to.write(part);
         }
     }

@@ -1,7 +1,6 @@
 package io.github.zuphinka;
 
 import java.io.IOException;
-import java.nio.ByteBuffer;
 import java.nio.channels.ClosedByInterruptException;
 import java.nio.channels.FileChannel;
 import java.nio.charset.StandardCharsets;
@@ -10,81 +9,121 @@ import java.nio.file.Files;
 import java.nio.file.Path;
 import java.nio.file.StandardCopyOption;
 import java.nio.file.StandardOpenOption;
-import java.nio.file.attribute.BasicFileAttributes;
+import java.time.Instant;
+import java.time.ZoneOffset;
+import java.time.format.DateTimeFormatter;
 import java.util.List;
 import java.util.Locale;
-import java.util.UUID;
-import java.util.stream.Stream;
 
 /**
- * Stores the segments of one pool in a folder: each in a file {@code segment-POSITION}, whose position has 20 digits, and the settings in
- * {@code settings.toml}. Other settings are in {@code settings-POSITION.toml}, with the position of the first segment that has them, and are stored
- * before that. After a crash a file is complete or absent: it is written under another name, synced and renamed, and the folder is
- * synced. So is the folder above each new folder.
+ * Stores the segments of one pool in a folder that is made for it, below the one that the user names. It has the time and the process of its start as
+ * its name and in {@code start.toml}; the settings in {@code settings.toml}; the entries in files {@code segment-POSITION}, whose position has 20
+ * digits; and the names of callers in {@code callers.txt}. Other settings are in {@code settings-POSITION.toml}, with the position of the first segment
+ * that has them, and are stored before that.
  *
- * <p>The settings come first, as a hard link, which fails if another pool has stored its settings there. So no two pools store segments in one
- * folder. The file system must have hard links. Nothing is stored while a folder of another pool is in the place of this one, which was moved away. A
- * crash may leave a file {@code .unfinished-ID}, which nobody reads.
+ * <p>The entries of a segment are appended to the file of those before it, which has their base, and are synced. A new file begins with other
+ * settings, once a file is long, and before it has more entries than the limit of the journal allows, by which a check judges each file. It is written
+ * under another name, synced and renamed, and the folder is synced. So is the folder above each new folder. After a crash the last line of the last
+ * file may be incomplete, and a file {@code .unfinished} may be left, which nobody reads.
  */
 final class SegmentFolder implements SegmentSink {
+    private static final String START = "start.toml";
     private static final String SETTINGS = "settings.toml";
-    /** The most bytes of a write. Each thread keeps a copy of that size for its next write. */
-    private static final int LONGEST_WRITE = 1 << 18;
+    /** From how many bytes on a file gets no more entries. */
+    private static final long LONG_FILE = 16 << 20;
+    /** How many entries an entry may take of the room of a journal, with those that are outstanding after it: as that of a borrow that makes an object. */
+    private static final long MOST_ROOM = 6;
+    private static final DateTimeFormatter NAME = DateTimeFormatter.ofPattern("yyyyMMdd'T'HHmmss'Z'", Locale.ROOT).withZone(ZoneOffset.UTC);
+    private static final DateTimeFormatter TIME =
+            DateTimeFormatter.ofPattern("yyyy-MM-dd'T'HH:mm:ss.SSS'Z'", Locale.ROOT).withZone(ZoneOffset.UTC);
+
     /** From the root, so that it stays the same folder. */
-    private final Path folder;
-    /** Where a file is written before it gets its name. No other pool has this name. */
-    private final Path unfinished;
-    /** What tells the file of settings that this pool has linked in the folder from others; null before. */
-    private Object own;
-    /** The settings that were stored last. */
+    final Path folder;
+    private final String start;
+    private final long limit;
+    private final CallerNames names;
+    private GrowingFile callers;
+    /** The lines for the callers' file that it does not have yet. */
+    private String unnamed = "";
+    /** The settings of the first segment, and those that were stored last; null before. */
+    private String first;
     private String settings;
+    /** The file of the last segment, and how many entries it has; null if the next segment begins one. */
+    private GrowingFile running;
+    private long entries;
+
+    /** What is done with files. */
+    private interface Act {
+        void run() throws IOException;
+    }
 
     /**
-     * Makes the folder, if it is not there.
+     * Makes the folder of a start, below another one.
      *
-     * @throws FileAlreadyExistsException if it has settings or segments
-     * @throws IOException if it cannot be made or read
+     * @param zero when the time of the journal's entries is 0
+     * @param limit how many entries a check allows in a file, with those that are outstanding
+     * @throws IOException if it cannot be made
      */
-    SegmentFolder(Path folder) throws IOException {
-        this.folder = folder.toAbsolutePath();
-        unfinished = this.folder.resolve(".unfinished-" + UUID.randomUUID());
-        create(this.folder);
-        requireFree();
+    SegmentFolder(Path parent, Instant zero, long limit, CallerNames names) throws IOException {
+        Instant started = Instant.now();
+        long process = ProcessHandle.current().pid();
+        this.limit = limit;
+        this.names = names;
+        start = "started = \"" + TIME.format(started) + "\"\nzero = \"" + TIME.format(zero) + "\"\nprocess = " + process + "\n";
+        Path above = parent.toAbsolutePath();
+        create(above);
+        folder = made(above, NAME.format(started) + "-" + process);
+        callers = new GrowingFile(folder.resolve("callers.txt"), 0);
+        uninterrupted(() -> {
+            sync(above);
+            storeAs(START, partsOf(start));
+        });
+    }
+
+    /** Makes a folder with a name, or with the first free number after it. */
+    private static Path made(Path above, String name) throws IOException {
+        for (int number = 1;; number++) {
+            try {
+                return Files.createDirectory(above.resolve(number == 1 ? name : name + "-" + number));
+            } catch (FileAlreadyExistsException e) {
+                // The next number is tried.
+            }
+        }
     }
 
     /** Makes a folder and those above it, as far as they are not there. */
-    private static void create(Path folder) throws IOException {
+    static void create(Path folder) throws IOException {
         if (Files.isDirectory(folder)) {
             return;
         }
         create(folder.getParent());
         Files.createDirectories(folder);
-        sync(folder.getParent());
+        uninterrupted(() -> sync(folder.getParent()));
     }
 
-    private void requireFree() throws IOException {
-        try (Stream<Path> files = Files.list(folder)) {
-            Path found = files.filter(SegmentFolder::isOfJournal).findFirst().orElse(null);
-            if (found != null) {
-                throw new FileAlreadyExistsException(found.toString());
-            }
+    /** Removes the folder of a pool that could not be made. */
+    void remove() {
+        try {
+            Files.deleteIfExists(folder.resolve(START));
+            Files.deleteIfExists(folder);
+        } catch (IOException e) {
+            // What is left says when the pool was to start.
         }
     }
 
-    private static boolean isOfJournal(Path file) {
-        String name = file.getFileName().toString();
-        return name.equals(SETTINGS) || name.startsWith("segment-") || name.startsWith("settings-");
-    }
-
-    /** Stores a segment, again if an interrupt ended that: the thread is interrupted for another cause, and stays so. */
     @Override
     public void store(Segment segment) throws IOException {
+        uninterrupted(() -> storeOnce(segment));
+    }
+
+    /** Acts again if an interrupt ended that: the thread is interrupted for another cause, and stays so. */
+    private static void uninterrupted(Act act) throws IOException {
         boolean isInterrupted = false;
         try {
             for (;;) {
                 isInterrupted |= Thread.interrupted();
                 try {
-                    storeOnce(segment);
+                    act.run();
                     return;
                 } catch (ClosedByInterruptException e) {
                     // Another try.
@@ -98,72 +137,83 @@ final class SegmentFolder implements SegmentSink {
     }
 
     private void storeOnce(Segment segment) throws IOException {
-        Path file = folder.resolve(SETTINGS);
-        Object found = own == null || Files.notExists(file) ? null : identity(file);
-        if (found == null) {
-            claim(segment.settings());
-        } else if (!found.equals(own)) {
-            throw new FileAlreadyExistsException(file.toString());
-        } else if (!segment.settings().equals(settings)) {
-            storeAs("settings-%020d.toml", segment.position(), partsOf(segment.settings()));
+        if (!isAppended(segment)) {
+            begin(segment);
         }
-        settings = segment.settings();
-        storeAs("segment-%020d", segment.position(), segment.parts);
+        storeNames();
     }
 
-    /** Stores a file by a name with a position. */
-    private void storeAs(String name, long position, List<byte[]> parts) throws IOException {
-        writeUnfinished(parts);
-        Files.move(unfinished, folder.resolve(String.format(Locale.ROOT, name, position)), StandardCopyOption.ATOMIC_MOVE);
-        sync(folder);
+    /** Appends the entries of a segment to the last file, and returns whether it may have them, and is there. */
+    private boolean isAppended(Segment segment) throws IOException {
+        boolean mayHave = running != null && running.size() < LONG_FILE && segment.settings().equals(settings)
+                && entries + segment.outstanding + MOST_ROOM * segment.entries() <= limit;
+        if (!mayHave || Files.notExists(folder.resolve(SETTINGS)) || !running.hasAppended(segment.lines)) {
+            return false;
+        }
+        entries += segment.entries();
+        return true;
+    }
+
+    /** Begins a file with a segment. What was removed of those before it is made again. */
+    private void begin(Segment segment) throws IOException {
+        running = null;
+        create(folder);
+        first = first == null ? segment.settings() : first;
+        restore(START, start);
+        boolean isRestored = restore(SETTINGS, first);
+        boolean isOther = settings != null && !segment.settings().equals(settings);
+        if (isOther || isRestored && !segment.settings().equals(first)) {
+            storeAs(named("settings-%020d.toml", segment), partsOf(segment.settings()));
+        }
+        settings = segment.settings();
+        String name = named("segment-%020d", segment);
+        storeAs(name, segment.parts());
+        running = new GrowingFile(folder.resolve(name), segment.size());
+        entries = segment.entries();
+    }
+
+    /** Stores a file if it is not there, and returns whether it was not. */
+    private boolean restore(String name, String text) throws IOException {
+        boolean isGone = Files.notExists(folder.resolve(name));
+        if (isGone) {
+            storeAs(name, partsOf(text));
+        }
+        return isGone;
+    }
+
+    /** Stores the names of callers that are not stored yet. */
+    private void storeNames() throws IOException {
+        unnamed += names.take();
+        if (unnamed.isEmpty()) {
+            return;
+        }
+        List<byte[]> lines = partsOf(unnamed);
+        if (!callers.hasAppended(lines)) {
+            storeAs("callers.txt", lines);
+            callers = new GrowingFile(folder.resolve("callers.txt"), lines.get(0).length);
+        }
+        unnamed = "";
+    }
+
+    /** Returns a name with the position of a segment. */
+    private static String named(String format, Segment segment) {
+        return String.format(Locale.ROOT, format, segment.position());
     }
 
     private static List<byte[]> partsOf(String text) {
         return List.of(text.getBytes(StandardCharsets.UTF_8));
     }
 
-    /** What tells a file from others, also from a later one that has got its number. */
-    private static Object identity(Path file) throws IOException {
-        BasicFileAttributes found = Files.readAttributes(file, BasicFileAttributes.class);
-        return List.of(found.fileKey(), found.lastModifiedTime());
-    }
-
-    /** Makes the folder this pool's: stores the settings, unless another pool did. A folder that was removed is made again. */
-    private void claim(String first) throws IOException {
-        create(folder);
-        if (own == null) {
-            requireFree();
-        }
-        writeUnfinished(partsOf(first));
-        try {
-            Object linked = identity(unfinished);
-            Files.createLink(folder.resolve(SETTINGS), unfinished);
-            own = linked;
-        } catch (FileAlreadyExistsException e) {
-            own = null;
-            throw e;
-        } finally {
-            Files.delete(unfinished);
-        }
-        sync(folder);
-    }
-
-    /** Writes a file that has no name of its own yet. One that an earlier try left is removed, since it may be the settings too. */
-    private void writeUnfinished(List<byte[]> parts) throws IOException {
-        Files.deleteIfExists(unfinished);
-        try (FileChannel file = FileChannel.open(unfinished, StandardOpenOption.CREATE_NEW, StandardOpenOption.WRITE)) {
-            for (byte[] part : parts) {
-                write(file, part);
-            }
+    /** Stores a file under a name. Before that it has another one. */
+    private void storeAs(String name, List<byte[]> text) throws IOException {
+        Path unfinished = folder.resolve(".unfinished");
+        try (FileChannel file = FileChannel.open(unfinished, StandardOpenOption.CREATE, StandardOpenOption.TRUNCATE_EXISTING,
+                StandardOpenOption.WRITE)) {
+            GrowingFile.write(file, text);
             file.force(true);
         }
-    }
-
-    private static void write(FileChannel file, byte[] text) throws IOException {
-        int written = 0;
-        while (written < text.length) {
-            written += file.write(ByteBuffer.wrap(text, written, Math.min(LONGEST_WRITE, text.length - written)));
-        }
+        Files.move(unfinished, folder.resolve(name), StandardCopyOption.ATOMIC_MOVE);
+        sync(folder);
     }
 
     private static void sync(Path folder) throws IOException {

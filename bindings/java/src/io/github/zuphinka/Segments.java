@@ -4,8 +4,10 @@ package io.github.zuphinka;
 final class Segments {
     private Segment first;
     private Segment last;
+    private long bytes;
 
     synchronized void add(Segment segment) {
+        bytes += segment.size;
         if (first == null) {
             first = segment;
         } else {
@@ -19,12 +21,18 @@ final class Segments {
         return first;
     }
 
+    /** Returns how many bytes their texts have. */
+    synchronized long bytes() {
+        return bytes;
+    }
+
     /** Removes the first one, and returns it; null if there is none. */
     synchronized Segment removeFirst() {
         Segment removed = first;
         if (removed != null) {
             first = removed.next;
             removed.next = null;
+            bytes -= removed.size;
         }
         return removed;
     }

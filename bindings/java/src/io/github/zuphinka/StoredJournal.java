@@ -13,11 +13,18 @@ final class StoredJournal {
     private static final long DROPPED_ENTRIES = 5_000;
     /** A cut takes time for each object, so that many entries for each are stored before a drop. */
     private static final long ENTRIES_PER_OBJECT = 8;
+    /** The number of a line that no base and no journal has. */
+    private static final long NO_LINE = Long.MAX_VALUE;
     /** After how many nanoseconds a call that waits for another thread's store looks again whether its wait is over. */
     private static final long LOOK_NANOS = 10_000_000;
 
+    /** From how many bytes of text on that wait to be stored no more are cut off. */
+    private static final long MOST_WAITING = 16 << 20;
+
     private final long core;
     private final Journal journal;
+    /** Stores what is cut off; null if that is dropped or kept. */
+    private final SegmentSink sink;
     private CoreSettings<?> settings;
     /** How many entries are stored. */
     private long entries;
@@ -25,18 +32,28 @@ final class StoredJournal {
     private volatile long cuts;
     /** At how many entries it is looked at again. */
     private long threshold;
-    /** The segments that are cut and not yet stored, or not yet returned by {@link #cutNow} if the journal is kept. More than one: settings changed. */
+    /** The counts of the core when they were last read, which needs no memory. */
+    private final long[] numbers = new long[Counts.NUMBERS];
+    private final Counts latest = new Counts(numbers);
+    /** How many entries were outstanding when it was last cut. */
+    private long outstanding;
+    /** The segments that are cut and not yet stored, or not yet returned by {@link #cutNow} if the journal is kept. */
     private final Segments pending = new Segments();
     /** Whether the next call stores these segments. After a failure it is due again once half of the room that was left is used up. */
     private volatile boolean isDue;
+    /** Whether the sink failed when it was last called. */
+    private volatile boolean hasFailed;
+    /** When the sink was last called, by {@link System#nanoTime}, while a thread stores something. */
+    private volatile long calledAt;
     /** Held while a segment is stored, so that segments are stored one at a time. The lock of the pool is not held meanwhile. */
     private final ReentrantLock storing = new ReentrantLock();
 
-    StoredJournal(long core, Journal journal, CoreSettings<?> settings) {
+    StoredJournal(long core, Journal journal, SegmentSink sink, CoreSettings<?> settings) {
         this.core = core;
         this.journal = journal;
+        this.sink = sink;
         this.settings = settings;
-        threshold = enough(0);
+        noteCut();
     }
 
     /** Returns at how many entries the journal is cut, if so many objects are present. */
@@ -55,12 +72,22 @@ final class StoredJournal {
         entries = number;
     }
 
-    /** Returns whether the journal is kept: nothing but a call of the user's cuts it. */
-    boolean isKept() {
-        return journal.sink == null && !journal.isDropped;
+    /** Returns whether entries are in memory. */
+    boolean hasEntries() {
+        return sink != null && entries > 0;
     }
 
-    /** Cuts the journal if it has enough entries, unless a segment waits to be stored, which is due then. So many objects are present. */
+    /** Returns whether the journal is kept: nothing but a call of the user's cuts it. */
+    boolean isKept() {
+        return sink == null && !journal.isDropped;
+    }
+
+    /** Returns whether it may be cut now: not if its sink fails, or has more to store than is to be in memory. The caller needs no lock. */
+    boolean mayBeCut() {
+        return sink == null || !isPending() || !hasFailed && pending.bytes() < MOST_WAITING;
+    }
+
+    /** Cuts the journal if it has enough entries, and may be cut. The segments that wait are due then. So many objects are present. */
     void cutIfLow(int present) {
         if (entries < threshold || isKept()) {
             return;
@@ -70,14 +97,14 @@ final class StoredJournal {
             return;
         }
         isDue |= isPending();
-        if (isPending() || !cut()) {
+        if (!mayBeCut() || !cut()) {
             threshold = entries + Math.max(1, Math.min(entries, (journal.limit - entries) / 2));
         }
     }
 
     /** Cuts the journal, and returns whether there was memory for that. */
     private boolean cut() {
-        if (journal.sink == null) {
+        if (sink == null) {
             return cutCore();
         }
         Segment segment;
@@ -106,6 +133,7 @@ final class StoredJournal {
         entries = 0;
         cuts++;
         threshold = enough(0);
+        outstanding = journal.limit - latest().room();
     }
 
     /** Looks whether it has room for the objects of other settings, as {@link JournalRoom#require}. The caller needs no lock. */
@@ -136,24 +164,37 @@ final class StoredJournal {
         settings = next;
         if (segment != null && segment.entries() > 0) {
             pending.add(segment);
-            isDue = journal.sink != null;
+            isDue = sink != null;
         }
     }
 
     /** Returns the journal since it was last cut; null if there is no memory. */
     Segment segment() {
-        List<byte[]> parts = new ArrayList<>();
-        long[] numbers = new long[2];
-        byte[] part = Core.part(core, numbers);
-        while (part != null && part.length > 0) {
-            parts.add(part);
-            part = Core.part(core, numbers);
-        }
-        if (part == null) {
+        List<byte[]> base = text(0, NO_LINE);
+        List<byte[]> lines = base == null ? null : text(NO_LINE, 0);
+        if (lines == null) {
             return null;
         }
         Counts counts = counts();
-        return new Segment(counts.steps() - counts.entries(), counts.entries(), parts, settings.text());
+        return new Segment(counts.steps() - counts.entries(), counts.entries(), base, lines, settings.text(), outstanding);
+    }
+
+    /** Returns the lines of the base from one on, and the entries from one on; null if there is no memory. */
+    private List<byte[]> text(long ofBase, long entry) {
+        List<byte[]> parts = new ArrayList<>();
+        long[] next = {ofBase, entry};
+        byte[] part = Core.part(core, next);
+        while (part != null && part.length > 0) {
+            parts.add(part);
+            part = Core.part(core, next);
+        }
+        return part == null ? null : parts;
+    }
+
+    /** Returns the counts, which change when they are read again. It needs no memory. */
+    Counts latest() {
+        Core.counts(core, numbers);
+        return latest;
     }
 
     Counts counts() {
@@ -176,12 +217,12 @@ final class StoredJournal {
     }
 
     /**
-     * Cuts a full journal, of which no segment waits to be stored, except those of changed settings.
+     * Cuts a full journal.
      *
      * @throws IllegalStateException if there is nothing to cut
      */
     void cutFull() {
-        if (counts().entries() == 0) {
+        if (latest().entries() == 0) {
             throw new IllegalStateException("Journal full");
         }
         if (!cut()) {
@@ -199,13 +240,23 @@ final class StoredJournal {
         return storing.isHeldByCurrentThread();
     }
 
+    /** Returns whether it is stored in segments. The caller needs no lock. */
+    boolean isStored() {
+        return sink != null;
+    }
+
     /** Returns whether a segment waits to be stored. The caller needs no lock. */
     boolean isPending() {
-        return journal.sink != null && pending.first() != null;
+        return sink != null && pending.first() != null;
+    }
+
+    /** Returns for how many milliseconds the sink has been storing a segment. The caller needs no lock. */
+    long storingMillis() {
+        return TimeUnit.NANOSECONDS.toMillis(System.nanoTime() - calledAt);
     }
 
     /**
-     * Stores the segment that waits, if it is due and no other thread does. The caller needs no lock.
+     * Stores the segments that wait, if they are due and no other thread does. The caller needs no lock.
      *
      * @throws IOException if the sink fails. The segment still waits.
      * @throws RuntimeException the same; with an error of the sink as its cause
@@ -217,7 +268,7 @@ final class StoredJournal {
     }
 
     /**
-     * Stores the segment that waits, if there is one, once other threads have stored theirs; otherwise as {@link #storeDue}. It has no effect in a
+     * Stores the segments that wait, if there are some, once other threads have stored theirs; otherwise as {@link #storeDue}. It has no effect in a
      * sink, which would wait for itself.
      */
     void storePending() throws IOException {
@@ -227,13 +278,50 @@ final class StoredJournal {
         }
     }
 
-    /** Does the same, unless the wait for that is over, or another thread stores one for longer than some nanoseconds: then it returns false. */
+    /**
+     * Does the same, and between two such stores calls what cuts off the rest, unless another thread stores for longer than some nanoseconds. No other
+     * thread stores the rest meanwhile.
+     */
+    void storeAll(Runnable cut, long nanos) throws IOException {
+        if (storing.isHeldByCurrentThread() || !hasTurn(nanos)) {
+            return;
+        }
+        try {
+            store();
+            cut.run();
+            store();
+        } finally {
+            storing.unlock();
+        }
+    }
+
+    /** Does the same as {@link #storePending()}, unless the wait for that is over, or another thread stores for longer than some nanoseconds: then it
+     * returns false. */
     boolean storePending(long nanos, BooleanSupplier isOver) throws IOException, InterruptedException {
         if (storing.isHeldByCurrentThread() || !hasTurn(nanos, isOver)) {
             return false;
         }
         storeAndUnlock();
         return true;
+    }
+
+    /** Takes the turn to store segments, whatever interrupts the thread. Returns false once some nanoseconds are over. */
+    private boolean hasTurn(long nanos) {
+        boolean isInterrupted = Thread.interrupted();
+        long begun = System.nanoTime();
+        try {
+            for (;;) {
+                try {
+                    return storing.tryLock(nanos - (System.nanoTime() - begun), TimeUnit.NANOSECONDS);
+                } catch (InterruptedException e) {
+                    isInterrupted = true;
+                }
+            }
+        } finally {
+            if (isInterrupted) {
+                Thread.currentThread().interrupt();
+            }
+        }
     }
 
     /** Takes the turn to store segments, and returns true; or false once the wait for it is over, and after some nanoseconds at the latest. */
@@ -252,26 +340,38 @@ final class StoredJournal {
 
     private void storeAndUnlock() throws IOException {
         try {
-            isDue = false;
-            while (isPending()) {
-                journal.sink.store(pending.first());
-                pending.removeFirst();
-            }
-        } catch (Error e) {
-            throw new IllegalStateException("The sink failed", e);
+            store();
         } finally {
             storing.unlock();
         }
     }
 
-    /** Cuts the rest of a journal that is stored, and returns true; or false if a segment waits to be stored before. */
-    boolean isRestCut() {
-        if (isPending()) {
-            return false;
+    /** Stores the segments that wait. The caller has the turn. */
+    private void store() throws IOException {
+        isDue = false;
+        while (isPending()) {
+            calledAt = System.nanoTime();
+            store(pending.first());
+            pending.removeFirst();
         }
-        if (journal.sink != null && counts().entries() > 0 && !cut()) {
+    }
+
+    private void store(Segment segment) throws IOException {
+        boolean hasStored = false;
+        try {
+            sink.store(segment);
+            hasStored = true;
+        } catch (Error e) {
+            throw new IllegalStateException("The sink failed", e);
+        } finally {
+            hasFailed = !hasStored;
+        }
+    }
+
+    /** Cuts the rest of a journal that is stored. */
+    void cutRest() {
+        if (sink != null && latest().entries() > 0 && !cut()) {
             throw new OutOfMemoryError("zuphinka: no memory to cut the journal");
         }
-        return true;
     }
 }

@@ -1,5 +1,6 @@
 package io.github.zuphinka;
 
+import java.util.Collection;
 import java.util.NoSuchElementException;
 import java.util.function.Consumer;
 import org.apache.commons.pool2.BasePooledObjectFactory;
@@ -67,12 +68,15 @@ final class Work<T> {
         return !passivates && !some.testOnReturn;
     }
 
-    /** Returns whether a method of the factory is the one of {@link BasePooledObjectFactory}, which does nothing. */
+    /**
+     * Returns whether a method of the factory is the one of {@link BasePooledObjectFactory}, which does nothing. It is taken for another one if the
+     * factory has a method of a class that is missing: then none of its methods can be looked up.
+     */
     private boolean inherits(String method, Class<?>... parameters) {
         try {
             Class<?> declaring = factory.getClass().getMethod(method, parameters).getDeclaringClass();
             return factory instanceof BasePooledObjectFactory && declaring.isAssignableFrom(BasePooledObjectFactory.class);
-        } catch (NoSuchMethodException e) {
+        } catch (NoSuchMethodException | LinkageError e) {
             return false;
         }
     }
@@ -80,6 +84,11 @@ final class Work<T> {
     /** Returns whether some object says itself when it was last used. */
     boolean hasTracked() {
         return hasTracked;
+    }
+
+    /** Returns the objects of the pool. It takes no lock: those that come or go meanwhile may be missing. */
+    Collection<Member<T>> all() {
+        return objects.all();
     }
 
     /** Returns the action with which an idle test begins. */
@@ -102,8 +111,8 @@ final class Work<T> {
     /** Does what a call is asked for. Returns the report. */
     int act(Call<T> call) {
         try {
-            boolean isOfPolicy = call.settings.policy != null && call.kind == Core.KIND_EVICT && call.action != Core.ACTION_DESTROY;
-            return isOfPolicy ? examine(call) : actOnObject(call);
+            boolean isExamined = call.settings.examines() && call.kind == Core.KIND_EVICT && call.action != Core.ACTION_DESTROY;
+            return isExamined ? examine(call) : actOnObject(call);
         } catch (Throwable e) {
             return failed(call, e);
         }
@@ -129,11 +138,19 @@ final class Work<T> {
     }
 
     /**
-     * Does what is part of the idle test of an object that an eviction run of the user's policy examines. The policy is asked first: an object that it
-     * wants gone fails its test. Any other is tested if the user wants tests, and passes otherwise. Returns the report.
+     * Does what is part of the idle test of an object that an eviction run examines for its age, or by the user's policy. An object that is too old, or
+     * that the policy wants gone, fails its test. Any other is tested if the user wants tests, and passes otherwise. Returns the report.
      */
     private int examine(Call<T> call) throws Exception {
-        if (call.action == firstOfTest() && isEvicted(call)) {
+        boolean isFirst = call.action == firstOfTest();
+        if (isFirst && call.settings.isTooOld(call.member, System.nanoTime())) {
+            return Core.REPORT_FAILED;
+        }
+        call.testsLeft -= isFirst ? 1 : 0;
+        if (call.testsLeft < 0) {
+            return Core.REPORT_SUCCEEDED;
+        }
+        if (isFirst && call.settings.policy != null && isEvicted(call)) {
             return Core.REPORT_FAILED;
         }
         return call.settings.testWhileIdle ? actOnObject(call) : Core.REPORT_SUCCEEDED;
@@ -230,6 +247,7 @@ final class Work<T> {
     private void make(Call<T> call) throws Exception {
         Member<T> member = call.member;
         member.pooled = factory.makeObject();
+        member.madeAt = System.nanoTime();
         if (member.pooled == null) {
             throw new NullPointerException("makeObject() returned null");
         }

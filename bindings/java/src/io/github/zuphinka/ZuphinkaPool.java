@@ -2,8 +2,8 @@ package io.github.zuphinka;
 
 import java.io.IOException;
 import java.lang.ref.WeakReference;
+import java.nio.file.Path;
 import java.time.Duration;
-import java.time.Instant;
 import java.util.ArrayList;
 import java.util.List;
 import java.util.NoSuchElementException;
@@ -11,6 +11,7 @@ import java.util.Set;
 import java.util.concurrent.ConcurrentHashMap;
 import java.util.concurrent.TimeUnit;
 import java.util.concurrent.atomic.AtomicBoolean;
+import java.util.function.Consumer;
 import java.util.function.UnaryOperator;
 import java.util.stream.Collectors;
 import javax.management.ObjectName;
@@ -18,10 +19,9 @@ import org.apache.commons.pool2.DestroyMode;
 import org.apache.commons.pool2.ObjectPool;
 import org.apache.commons.pool2.PooledObject;
 import org.apache.commons.pool2.PooledObjectFactory;
-import org.apache.commons.pool2.PooledObjectState;
-import org.apache.commons.pool2.TrackedUse;
 import org.apache.commons.pool2.UsageTracking;
 import org.apache.commons.pool2.impl.AbandonedConfig;
+import org.apache.commons.pool2.impl.BaseObjectPoolConfig;
 import org.apache.commons.pool2.impl.DefaultPooledObjectInfo;
 import org.apache.commons.pool2.impl.GenericObjectPoolConfig;
 
@@ -38,11 +38,12 @@ import org.apache.commons.pool2.impl.GenericObjectPoolConfig;
  *
  * <p>Each call that takes a step may throw three exceptions that it does not list. They leave the pool as it was before the step:
  * <ul>
- * <li>an {@link IllegalStateException} with the message "Journal full", if the journal has no room: a kept one until it is cut, a stored one until
- * its sink stores the segment that waits. The failure of the sink is its cause, if it failed. Otherwise another thread stores that segment for longer
- * than a borrow waits;
+ * <li>an {@link IllegalStateException} whose message begins with "Journal full", if the journal has no room: a kept one until it is cut, a stored one
+ * until its sink stores what waits. The failure of the sink is its cause, if it failed. Otherwise the sink is slow, as the message says: 16 MiB of text
+ * wait for it, and it takes longer than a borrow waits;
  * <li>an {@link OutOfMemoryError}, if there is no memory. The call may be tried again;
- * <li>a {@link StackOverflowError}, if the thread has less than 120 KiB of its stack left.
+ * <li>a {@link StackOverflowError}, if the thread has less than 120 KiB of its stack left; or than 24 KiB besides what the virtual machine keeps for
+ * itself by other options, such as {@code -XX:StackShadowPages}.
  * </ul>
  * The return and the invalidation of a lent object never throw the first two, nor does the close of an open pool before it has closed and cleared
  * it, unless the heap of the virtual machine is full. Work begun on an object is always completed.
@@ -56,6 +57,7 @@ public class ZuphinkaPool<T> extends ConfiguredPool<T> implements ObjectPool<T>,
     private final Objects<T> objects = new Objects<>();
     private final Work<T> work;
     private final Sections<T> sections;
+    private final Leaks<T> leaks;
     private final Construction construction = new Construction(this, ZuphinkaPool.class);
     /** The threads that are in {@link #swallowed}. */
     private final Set<Thread> reporting = ConcurrentHashMap.newKeySet();
@@ -111,10 +113,10 @@ public class ZuphinkaPool<T> extends ConfiguredPool<T> implements ObjectPool<T>,
      * @param factory makes, activates, tests, passivates and destroys the objects
      * @param config the settings; not null
      * @param abandoned when objects are abandoned; null: never
-     * @param journal what becomes of the journal; not null. A stored one is for one pool
+     * @param journal what becomes of the journal; not null
      * @throws IllegalArgumentException if the factory is null, the limit of the journal is out of its range, or is reached before {@code maxTotal}
-     *     objects are lent; if another pool has the journal of this folder; or if no policy can be made of the class that {@code
-     *     evictionPolicyClassName} names
+     *     objects are lent; or if no policy can be made of the class that {@code evictionPolicyClassName} names
+     * @throws java.io.UncheckedIOException if the journal's folder cannot be made
      * @throws OutOfMemoryError if there is no memory for the pool
      * @throws LinkageError if the native library is not found or cannot be loaded
      */
@@ -122,33 +124,31 @@ public class ZuphinkaPool<T> extends ConfiguredPool<T> implements ObjectPool<T>,
         if (factory == null) {
             throw new IllegalArgumentException("Factory may not be null");
         }
-        CoreSettings<T> settings = new CoreSettings<>(config, abandoned, journal.limit);
+        CoreSettings<T> settings = new CoreSettings<>(config, abandoned, journal.limit, Duration.ZERO);
         work = new Work<>(factory, settings, objects, this::swallow);
-        sections = open(settings, journal, work);
+        sections = new Sections<>(settings, journal, work);
+        leaks = new Leaks<>(this, objects, sections, context);
         try {
             beanName = config.getJmxEnabled() ? PoolBean.register(this, config, factory.getClass().getName()) : null;
             isRegistered.set(beanName != null);
+            sections.setName(nameOf(beanName, config, factory));
             startMaintenance();
+            sections.startFlusher(journal, context);
         } catch (Throwable e) {
-            undo(journal);
+            unregister();
+            sections.undo();
             throw e;
         }
     }
 
-    private static <T> Sections<T> open(CoreSettings<T> settings, Journal journal, Work<T> work) {
-        journal.take();
-        try {
-            return new Sections<>(settings, journal, work);
-        } catch (Throwable e) {
-            journal.leave();
-            throw e;
+    /** Returns what tells a pool from others in messages: the name of its MBean. Without one it is the prefix of that, unless that is the default. */
+    private static String nameOf(ObjectName bean, GenericObjectPoolConfig<?> config, PooledObjectFactory<?> factory) {
+        if (bean != null) {
+            return bean.toString();
         }
-    }
-
-    /** Leaves nothing of a pool that could not be made. */
-    private void undo(Journal journal) {
-        journal.leave();
-        unregister();
+        String prefix = config.getJmxNamePrefix();
+        boolean isDefault = prefix == null || prefix.equals(BaseObjectPoolConfig.DEFAULT_JMX_NAME_PREFIX);
+        return isDefault ? "of " + factory.getClass().getName() : prefix;
     }
 
     /** Unregisters the MBean, unless that was done: its name may be another pool's then. */
@@ -207,8 +207,9 @@ public class ZuphinkaPool<T> extends ConfiguredPool<T> implements ObjectPool<T>,
      * one, and makes no entry meanwhile.
      *
      * @return an object that no other caller has, until it is returned, invalidated or abandoned
-     * @throws NoSuchElementException if no object and no place is free, and the configuration says not to wait or the time is over; or if a new
-     *     object failed its activation or its test. What the factory threw is the cause, if it threw
+     * @throws NoSuchElementException if no object and no place is free, and the configuration says not to wait or the time is over: the message has the
+     *     pool's name, the limit, how long the borrow waited, and the numbers of objects and of other borrows that wait. Or if a new object failed its
+     *     activation or its test. What the factory threw is the cause, if it threw
      * @throws IllegalStateException if the pool is closed, also while it waits
      * @throws InterruptedException if the thread is interrupted while it waits, or is when its time is over
      * @throws Exception if the factory fails to make an object; the same exception. If it returns null a {@link NullPointerException}, and an {@link
@@ -311,12 +312,10 @@ public class ZuphinkaPool<T> extends ConfiguredPool<T> implements ObjectPool<T>,
 
     private T borrow(long longestNanos) throws Exception {
         long first = System.nanoTime();
-        if (settings().reclaimsOnBorrow) {
-            noteTrackedUses(Core.KIND_BORROW, first, longestNanos);
-        }
         for (;;) {
             Member<T> member = sections.borrow(first, longestNanos);
             if (isTold(member)) {
+                leaks.noteLoan(member);
                 return member.pooled.getObject();
             }
         }
@@ -326,6 +325,7 @@ public class ZuphinkaPool<T> extends ConfiguredPool<T> implements ObjectPool<T>,
     private boolean isTold(Member<T> member) throws Exception {
         try {
             work.tellLoan(member);
+            sections.uses.remember(member);
             return true;
         } catch (Throwable e) {
             endLoan(member);
@@ -378,6 +378,7 @@ public class ZuphinkaPool<T> extends ConfiguredPool<T> implements ObjectPool<T>,
             missing("Returned object not currently part of this pool");
             return;
         }
+        Leaks.forget(member);
         while (!isReturned(member, settings())) {
             // Other settings came between.
         }
@@ -429,6 +430,7 @@ public class ZuphinkaPool<T> extends ConfiguredPool<T> implements ObjectPool<T>,
             missing("Invalidated object not currently part of this pool");
             return;
         }
+        Leaks.forget(member);
         sections.make(Core.KIND_INVALIDATE, member, mode);
         sections.storeDue();
     }
@@ -445,10 +447,9 @@ public class ZuphinkaPool<T> extends ConfiguredPool<T> implements ObjectPool<T>,
         if (member == null) {
             return;
         }
-        Instant now = Instant.now();
         member.pooled.use();
         sections.make(Core.KIND_TOUCH, member);
-        member.used = now;
+        sections.uses.remember(member);
         sections.storeDue();
     }
 
@@ -507,29 +508,10 @@ public class ZuphinkaPool<T> extends ConfiguredPool<T> implements ObjectPool<T>,
         sections.make(Core.KIND_EVICT, null);
         CoreSettings<T> settings = settings();
         if (settings.reclaimsOnMaintenance) {
-            noteTrackedUses(Core.KIND_RECLAIM, System.nanoTime(), -1);
+            sections.uses.note(Core.KIND_RECLAIM, System.nanoTime(), -1);
             sections.make(Core.KIND_RECLAIM, null);
         }
         sections.storeDue();
-    }
-
-    /** Notes when lent objects were last used that know it themselves, and that are abandoned otherwise. */
-    private void noteTrackedUses(int kind, long first, long longestNanos) throws Exception {
-        if (!work.hasTracked()) {
-            return;
-        }
-        for (Member<T> member : objects.all()) {
-            boolean isTracked = member.pooled.getObject() instanceof TrackedUse && member.pooled.getState() == PooledObjectState.ALLOCATED;
-            if (isTracked && sections.isAbandoned(member)) {
-                Instant used = ((TrackedUse) member.pooled.getObject()).getLastUsedInstant();
-                if (used.isAfter(member.pooled.getLastBorrowInstant()) && (member.used == null || used.isAfter(member.used))) {
-                    Instant now = Instant.now();
-                    long ago = used.isBefore(now) ? Duration.between(used, now).toNanos() : 0;
-                    sections.noteUse(member, ago, kind, first, longestNanos);
-                    member.used = used;
-                }
-            }
-        }
     }
 
     /** Destroys all idle objects, except those under an idle test. What the factory throws is passed to {@link #swallowed}. */
@@ -543,8 +525,8 @@ public class ZuphinkaPool<T> extends ConfiguredPool<T> implements ObjectPool<T>,
      * Closes the pool: nothing is lent any more, threads that wait get an {@link IllegalStateException}, and idle objects are destroyed. Lent ones
      * are destroyed when they are returned. It ends the maintenance thread, for which it waits as long as {@code evictorShutdownTimeout} says,
      * unregisters the MBean, and stores the rest of a journal that is stored, also if the factory throws an {@link Error}. The entries of later
-     * returns are stored by these, each time that there are as many as objects that are still lent. What the factory and the sink throw otherwise is
-     * passed to {@link #swallowed}. A second close destroys nothing.
+     * returns are stored by these, each time that there are as many as objects that are still lent, and those in a folder within a second. What the
+     * factory and the sink throw otherwise is passed to {@link #swallowed}. A second close destroys nothing.
      *
      * @throws OutOfMemoryError if there is no memory to cut the rest of a journal that is stored; the pool is closed, and {@link #flushJournal} may
      *     be tried again
@@ -568,9 +550,66 @@ public class ZuphinkaPool<T> extends ConfiguredPool<T> implements ObjectPool<T>,
             stopMaintenance();
             ending = List.copyOf(stopped);
         }
+        leaks.stop();
         Maintenance.await(ending, settings().config.getEvictorShutdownTimeoutDuration());
         unregister();
         sections.endJournal();
+    }
+
+    // Leaks.
+
+    /**
+     * Returns how long a loan lasts at most that is not told as a leak.
+     *
+     * @return a time; 0 or negative, as by default: none is told
+     */
+    public Duration getLeakDetectionThreshold() {
+        return leaks.threshold();
+    }
+
+    /**
+     * Has each loan told to the listener once ({@link #setLeakListener}) that lasts longer than a limit: of those that begin from now on. A daemon thread
+     * looks for them, ten times within the limit and once a second at least. It ends with the pool. Each borrow then stores its time, and the name of its
+     * thread. Nothing is taken from its holder: an {@code AbandonedConfig} does that.
+     *
+     * @param value the limit; 0 or negative: none is told
+     */
+    public void setLeakDetectionThreshold(Duration value) {
+        leaks.setThreshold(value);
+    }
+
+    /**
+     * Sets what is told of leaks, in place of the one before: a logger, for example. It runs in the thread that looks for them, without the pool's lock,
+     * and may call the pool. What it throws is passed to {@link #swallowed}. Without one nobody is told.
+     *
+     * @param listener what is told; not null
+     */
+    public void setLeakListener(Consumer<Leak> listener) {
+        leaks.setListener(java.util.Objects.requireNonNull(listener));
+    }
+
+    /**
+     * Sets whether each borrow notes its stack, for {@link Leak#stack}, while leaks are told. That takes some microseconds of each borrow, and more on a
+     * deep stack.
+     *
+     * @param value whether it does; false by default
+     */
+    public void setLeakStackTraces(boolean value) {
+        leaks.setStacks(value);
+    }
+
+    /**
+     * Returns whether each borrow notes its stack, while leaks are told.
+     *
+     * @return whether it does
+     */
+    public boolean getLeakStackTraces() {
+        return leaks.hasStacks();
+    }
+
+    /** Tells the leaks that were not told. */
+    final void findLeaks() {
+        leaks.find();
     }
 
     // Numbers.
@@ -741,6 +780,19 @@ public class ZuphinkaPool<T> extends ConfiguredPool<T> implements ObjectPool<T>,
         return beanName;
     }
 
+    /**
+     * Returns the name of the pool, as its messages have it, and its numbers of objects.
+     *
+     * @return a text in one line
+     */
+    @Override
+    public String toString() {
+        Counts counts = sections.counts();
+        String objects = ", lent " + counts.lent() + ", reserved " + counts.reserved() + ", idle " + counts.idle();
+        String limits = ", waiting " + getNumWaiters() + ", maxTotal " + getMaxTotal();
+        return "ZuphinkaPool[pool " + sections.name() + objects + limits + (isClosed() ? ", closed]" : "]");
+    }
+
     // The journal.
 
     /**
@@ -773,13 +825,14 @@ public class ZuphinkaPool<T> extends ConfiguredPool<T> implements ObjectPool<T>,
     }
 
     /**
-     * Cuts a journal that is kept, and returns what was cut. Objects, waits and counts are unchanged. Entries of a journal that is stored would be
-     * missing from its segments.
+     * Cuts a journal that is kept or dropped, and returns what was cut. Objects, waits and counts are unchanged. The entries of a journal that is stored
+     * are stored by {@link #flushJournal}.
      *
      * <p>If the settings changed since the last cut, this first returns the entries before the change, with the settings that they had, and cuts nothing.
      * The next call returns those after it.
      *
      * @return the entries since the last cut, with the base that they continue
+     * @throws UnsupportedOperationException if the journal is stored: these entries would be missing there. Nothing is cut
      * @throws OutOfMemoryError if there is no memory; then nothing is cut
      */
     public Segment cut() {
@@ -787,14 +840,23 @@ public class ZuphinkaPool<T> extends ConfiguredPool<T> implements ObjectPool<T>,
     }
 
     /**
-     * Stores all entries of a journal that is stored. It has no effect on one that is kept or dropped. A failure of the sink is passed to {@link
-     * #swallowed}, and the segment waits.
+     * Stores all entries of a journal that is stored, now: they are stored in some time by themselves ({@link Journal#storeEvery}). It has no effect on
+     * one that is kept or dropped. A failure of the sink is passed to {@link #swallowed}, and the segment waits.
      *
      * @throws OutOfMemoryError if there is no memory; then nothing is cut
-     * @throws StackOverflowError if the thread has less than 120 KiB of its stack left; then nothing is stored
+     * @throws StackOverflowError if the thread has too little of its stack left; then nothing is stored
      */
     public void flushJournal() {
         sections.flushJournal();
+    }
+
+    /**
+     * Returns the folder with the journal ({@link Journal#inFolder}).
+     *
+     * @return the folder that was made for this pool; null if its journal is in none
+     */
+    public Path getJournalFolder() {
+        return sections.folder();
     }
 
     /**

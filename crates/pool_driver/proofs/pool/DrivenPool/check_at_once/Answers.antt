@@ -1,5 +1,5 @@
 use Rattle.std.proofs.Common.{rules}
 use Rattle.pool_driver.proofs.pool.DrivenPool.check_at_once.Goals as goal
 
-pub returns-in-Ok-clause-checked : goal.returns-in-Ok-clause-checked
-returns-in-Ok-clause-checked c = search rules
+pub returns-clause-checked : goal.returns-clause-checked
+returns-clause-checked c = search rules

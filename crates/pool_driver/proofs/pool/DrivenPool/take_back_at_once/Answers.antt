@@ -44,16 +44,16 @@ returns-clause-back c is =
     let last : inside.last ≡ at = ap (λ (d : DrivenModel). d.last) checked.rest in
     let e = entry_of c.args.caller at (inputs.GiveBack i) answers.Check in
     let appended : core.journal ≡ J ++ e ∷ [] = appended_check c.args.caller at i old.core core took in
-    let sound : IsWellFormed b = subst (λ (d : DrivenModel). IsWellFormed d.core.base) c.self.view_is c.journal.ensures.runnable.sound in
+    let sound : IsWellFormed b = subst (λ (d : DrivenModel). IsWellFormed d.core.base) c.self.view_is c.journal.ensures.resumable.sound in
     let legal : IsLegalFrom S b J =
-    subst (λ (d : DrivenModel). IsLegalFrom d.core.settings d.core.base d.core.journal) c.self.view_is c.journal.ensures.legal in
+    subst (λ (d : DrivenModel). IsLegalFrom d.core.settings d.core.base d.core.journal) c.self.view_is c.journal.ensures.consistent.legal in
     let F : Settings → Base → List Entry → Bool = λ s x j. has_room s (closed_from x j) (records_from x j) in
     let room : true ≡ F S b (J ++ e ∷ []) =
     sym c.if-not-has_idle_room.false ∙ c.has_idle_room.ensures ∙ sym (room_stays S b J sound legal c.args.caller at i took.due) in
     let same : F core.settings core.base core.journal ≡ F S b (J ++ e ∷ []) =
     ap (λ (s : Settings). F s core.base core.journal) took.settings_stay ∙ ap (λ (x : Base). F S x core.journal) took.base_stays ∙ ap (F S b) appended in
     let returning = returning_after core.base c.args.caller at i core.journal (record { earlier = J; is = appended }) in
-    let parked = parked_of core.settings core.base core.journal c.journal-2.ensures.runnable.sound c.journal-2.ensures.legal at i true (room ∙ sym same) returning in
+    let parked = parked_of core.settings core.base core.journal c.journal-2.ensures.resumable.sound c.journal-2.ensures.consistent.legal at i true (room ∙ sym same) returning in
     let answered = subst (λ (t : ℕ). Answered c.args.caller t (inputs.Park i outcomes.Good) (Some c.args.token) core c.take_back.new.self c.take_back.result.0 c.take_back.result.1) last c.take_back.ensures.answered in
     record {
       silent = sym c.asks_at_return.ensures ∙ c.if-asks_at_return.false;

@@ -16,7 +16,7 @@ returns-clause-more g c =
     ∙ take-copy_within i.buffer.items i.start i.end (omega arith) (omega arith) in
     let same_length : length xs ≡ c.copy_within.new.self.len = omega (arith, c.copy_within.new.self.ok.0) in (
       slice_range xs kept (kept + count),
-      length-slice_range xs kept count more.0,
+      length-slice_range xs kept count (omega (arith, more.0, c.min.ensures)),
       ap (λ l. slice_range l 0 (kept + count)) (with_items_is c.copy_within.new.self xs same_length)
           ∙ slice_range-grown xs _ kept count (c.in_ok-count.ensures.front ∙ moved ∙ c.self.view_is),
       more.1,

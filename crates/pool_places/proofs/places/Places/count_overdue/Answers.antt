@@ -12,5 +12,5 @@ returns g c = rw (← c.self.view_is) (c.overdue_count.ensures ∙ sym (length-f
 
 pub returns-then-saturating_sub-timeout : goal.returns-then-saturating_sub-timeout
 returns-then-saturating_sub-timeout g c =
-    let early : c.args.at - c.self.inside.least_used < c.args.timeout = omega (arith, c.saturating_sub.ensures, c.if-saturating_sub-timeout.true) in
-    rw (← c.self.view_is) (sym (ap (λ (rs : List Record). length rs) (none_overdue c.args.at c.args.timeout c.self.inside.least_used _ c.self.invariant.bound early)))
+    let early : c.args.at - c.earliest_use.result < c.args.timeout = omega (arith, c.saturating_sub.ensures, c.if-saturating_sub-timeout.true) in
+    sym (ap (λ (rs : List Record). length rs) (none_overdue c.args.at c.args.timeout c.earliest_use.result _ c.earliest_use.ensures early))

@@ -14,7 +14,7 @@ use Rattle.pool_places.proofs.Outstanding.{remove_owed_of}
 use Rattle.pool_places.proofs.Numbers.{has_one, counted_remove}
 use Rattle.pool_places.proofs.SlotLists.{line_left}
 use Rattle.pool_places.proofs.Walks.{key_is_gone}
-use Rattle.pool_places.specs.Overdue.{IsBound}
+use Rattle.pool_places.specs.LastUses.{AreLastUses}
 use Rattle.pool_places.proofs.Bounds.{bound_remove}
 use Rattle.pool_places.proofs.Turned.{Reads, here, key_seen, item_there, follows_known, no_value, sets_requeued, kept_freed, tied_freed, ascending_without}
 use Rattle.pool_places.proofs.places.Places.free.Goals as goal
@@ -58,7 +58,7 @@ invariant_of-self g c =
       tied = tied_freed rack c.remove.new.self pairs c.remove-key.new.self.pairs c.args.id c.remove-key.result _ reads sets (subst IsAscending (sym c.remove-key.ensures.pairs) (ascending_without c.args.id pairs c.self.invariant.tied.ascending)) c.remove-key.ensures.gone c.remove-key.ensures.others;
       line = line_left rack c.remove.new.self c.remove-key.result None c.self.invariant.line sets (c.remove.ensures.queue ∙ ap (λ r. r.queue) c.leave.ensures.queue) refl;
       remembered = subst (λ ks. IsWithin ks c.leave.new.remembered) (sym c.remove.ensures.queue) c.leave.ensures.remembered;
-      bound = subst (λ qs. IsBound c.self.inside.least_used (records_in qs)) (sym is) (bound_remove _ _ (objects_of rack pairs) c.self.invariant.bound);
+      last_uses = subst (λ qs. AreLastUses c.self.inside.uses (records_in qs)) (sym is) (bound_remove _ _ (objects_of rack pairs) c.self.invariant.last_uses);
     }
 
 pub returns : goal.returns

@@ -35,5 +35,5 @@ returns-clause-lent g c =
 
 pub returns-then-saturating_sub-timeout-clause-value : goal.returns-then-saturating_sub-timeout-clause-value
 returns-then-saturating_sub-timeout-clause-value g c =
-    let early : c.args.at - c.self.inside.least_used < c.args.timeout = omega (arith, c.saturating_sub.ensures, c.if-saturating_sub-timeout.true) in
-    rw (← c.self.view_is) (sym (ap (λ (rs : List Record). option_map (λ (r : Record). r.id) (first_of rs)) (none_overdue c.args.at c.args.timeout c.self.inside.least_used _ c.self.invariant.bound early)))
+    let early : c.args.at - c.earliest_use.result < c.args.timeout = omega (arith, c.saturating_sub.ensures, c.if-saturating_sub-timeout.true) in
+    sym (ap (λ (rs : List Record). option_map (λ (r : Record). r.id) (first_of rs)) (none_overdue c.args.at c.args.timeout c.earliest_use.result _ c.earliest_use.ensures early))

@@ -16,7 +16,7 @@ use Rattle.pool_places.proofs.Outstanding.{push_owed}
 use Rattle.pool_places.proofs.Numbers.{counted_push, small}
 use Rattle.pool_places.proofs.Keeping.{record_absent, opened_not_queued}
 use Rattle.pool_places.proofs.SlotLists.{line_apart}
-use Rattle.pool_places.specs.Overdue.{IsBound}
+use Rattle.pool_places.specs.LastUses.{AreLastUses}
 use Rattle.pool_places.proofs.Bounds.{bound_push, opened_not_lent}
 use Rattle.pool_places.proofs.Turned.{pairs_below, kept_opened, tied_opened, ascending_push, key_absent}
 use Rattle.pool_places.proofs.places.Places.open.Goals as goal
@@ -43,7 +43,7 @@ invariant_of-self g c =
       tied = tied_opened rack c.insert-key.new.self pairs c.push.new.self.pairs p _ c.self.invariant.tied c.insert-key.ensures.vacant c.insert-key.ensures.sets refl (subst IsAscending (sym c.push.ensures.pairs) (ascending_push pairs p c.self.invariant.tied.ascending (pairs_below _ _ _ c.self.invariant.tied above))) absent c.push.ensures.found c.push.ensures.others;
       line = line_apart rack c.insert-key.new.self c.insert-key.result _ c.self.invariant.line c.insert-key.ensures.sets c.insert-key.ensures.queue (sym (ap (is_in c.insert-key.result) c.insert-key.ensures.queue) ∙ c.insert-key.ensures.out) out;
       remembered = subst (λ ks. IsWithin ks c.self.inside.remembered) (sym c.insert-key.ensures.queue) c.self.invariant.remembered;
-      bound = subst (λ qs. IsBound c.self.inside.least_used (records_in qs)) (sym is) (bound_push _ (new_place c.args.id c.args.phase) ps (λ yes. absurd (cc (yes, opened_not_lent c.args.phase c.requires.phase))) c.self.invariant.bound);
+      last_uses = subst (λ qs. AreLastUses c.self.inside.uses (records_in qs)) (sym is) (bound_push _ (new_place c.args.id c.args.phase) ps (λ yes. absurd (cc (yes, opened_not_lent c.args.phase c.requires.phase))) c.self.invariant.last_uses);
     }
 
 pub returns : goal.returns

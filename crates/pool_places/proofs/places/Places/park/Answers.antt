@@ -56,7 +56,7 @@ invariant_of-self g c =
     let queue = ap (λ r. r.queue) c.link_last.ensures ∙ ap (λ ks. ks ++ c.key_under-key.result ∷ []) (c.put.ensures.queue ∙ c.set_known.ensures.queue) in
     let above = subst (λ s. QueueBelow c.args.parked (records_in s.objects)) (sym c.self.view_is) c.requires.above in
     let below = entries_below _ _ _ above (queue_kept _ _ c.self.invariant.tied c.self.invariant.line) in
-    kept_after _ _ _ _ _ _ _ _ _ _ reads sets refl refl (counted_set _ _ _ _ found c.self.invariant.counted c.remove.ensures c.add.ensures) (line_joined _ _ _ _ _ c.self.invariant.line sets (item_known c.self.inside.slots c.key_under-key.result c.known-known.result c.known-known.ensures) queue (found_known _ found c.self.view_is c.requires.present) refl below) (subst (λ ks. IsWithin ks c.self.inside.remembered) (sym queue) (within_push _ c.self.inside.slots.queue c.self.inside.remembered c.self.invariant.remembered)) (bound_set _ _ _ _ (λ yes. absurd (cc yes)) c.self.invariant.bound)
+    kept_after _ _ _ _ _ _ _ _ _ _ reads sets refl refl (counted_set _ _ _ _ found c.self.invariant.counted c.remove.ensures c.add.ensures) (line_joined _ _ _ _ _ c.self.invariant.line sets (item_known c.self.inside.slots c.key_under-key.result c.known-known.result c.known-known.ensures) queue (found_known _ found c.self.view_is c.requires.present) refl below) (subst (λ ks. IsWithin ks c.self.inside.remembered) (sym queue) (within_push _ c.self.inside.slots.queue c.self.inside.remembered c.self.invariant.remembered)) (bound_set _ _ _ _ (λ yes. absurd (cc yes)) c.self.invariant.last_uses)
 
 pub returns : goal.returns
 returns g c =

@@ -4,9 +4,9 @@ use Rattle.pool_places.proofs.Turned.{kept_reserved}
 use Rattle.pool_places.proofs.places.Places.reserve_one.Goals as goal
 
 pub invariant_of-self : goal.invariant_of-self
-invariant_of-self g c = subst (λ r. RepInvariant r c.self.inside.index.pairs c.self.inside.counts c.self.inside.remembered c.self.inside.least_used) (sym c.reserve_one.ensures.rest) (kept_reserved c.self.inside.slots _ _ _ _ c.reserve_one.new.self.room c.self.invariant)
+invariant_of-self g c = subst (λ r. RepInvariant r c.self.inside.index.pairs c.self.inside.counts c.self.inside.remembered c.self.inside.uses) (sym c.reserve_one.ensures.rest) (kept_reserved c.self.inside.slots _ _ _ _ c.reserve_one.new.self.room c.self.invariant)
 
 pub invariant_of-self-2 : goal.invariant_of-self-2
 invariant_of-self-2 g c =
-    let kept = subst (λ r. RepInvariant r c.self.inside.index.pairs c.self.inside.counts c.self.inside.remembered c.self.inside.least_used) (sym c.reserve_one.ensures.rest) (kept_reserved c.self.inside.slots _ _ _ _ c.reserve_one.new.self.room c.self.invariant) in
-    subst (λ ps. RepInvariant c.reserve_one.new.self ps c.self.inside.counts c.self.inside.remembered c.self.inside.least_used) (sym c.reserve_one-2.ensures.pairs) kept
+    let kept = subst (λ r. RepInvariant r c.self.inside.index.pairs c.self.inside.counts c.self.inside.remembered c.self.inside.uses) (sym c.reserve_one.ensures.rest) (kept_reserved c.self.inside.slots _ _ _ _ c.reserve_one.new.self.room c.self.invariant) in
+    subst (λ ps. RepInvariant c.reserve_one.new.self ps c.self.inside.counts c.self.inside.remembered c.self.inside.uses) (sym c.reserve_one-2.ensures.pairs) kept

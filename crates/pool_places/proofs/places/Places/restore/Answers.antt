@@ -7,7 +7,7 @@ use Rattle.sorted_index.specs.Pairs.{IsAscending}
 use Rattle.pool_places.specs.declared.place.Place.{Place}
 use Rattle.pool_places.specs.Changes.{IdsBelow, IsFreePosition}
 use Rattle.pool_places.specs.Counts.{IsCounts}
-use Rattle.pool_places.specs.Overdue.{IsBound}
+use Rattle.pool_places.specs.LastUses.{AreLastUses}
 use Rattle.pool_places.specs.PlacesModel.{records_in, PlacesInvariant}
 use Rattle.pool_places.specs.Stored.{objects_of, place_at, parked_of}
 use Rattle.pool_places.specs.QueueEntries.{IsAscendingQueue}
@@ -65,7 +65,7 @@ invariant_of-self g c =
         ascends = c.enter.ensures.ascends;
       });
       remembered = c.enter.ensures.remembered;
-      bound = subst (λ qs. IsBound c.earlier-self-inside.result (records_in qs)) (sym is) (bound_push _ place ps (λ yes. omega (arith, c.earlier-self-inside.ensures.other, c.last_use.ensures yes)) (bound_earlier _ _ (records_in ps) c.earlier-self-inside.ensures.one c.self.invariant.bound));
+      last_uses = subst (λ qs. AreLastUses (record c.self.inside.uses { recent = c.earlier-self-inside.result }) (records_in qs)) (sym is) (bound_push _ place ps (λ yes. omega (arith, c.earlier-self-inside.ensures.other, c.last_use.ensures yes)) (bound_earlier _ _ (records_in ps) c.earlier-self-inside.ensures.one c.self.invariant.last_uses));
     }
 
 pub returns : goal.returns

@@ -1,4 +1,5 @@
-use Rattle.std.proofs.Common.{refl, ap, arith}
+use Rattle.std.proofs.Common.{refl, ap, arith, subst, sym}
+use Rattle.pool_places.specs.Counts.{HasOne, HasOneMore}
 use Rattle.pool_journal.specs.Queue.{is_idle}
 use Rattle.pool_slots.specs.SlotsModel.{value_at}
 use Rattle.pool_places.proofs.SlotLists.{item_known}
@@ -22,7 +23,7 @@ pub remove-requires : goal.remove-requires
 remove-requires g c =
     let reads : Reads c.self.inside.slots c.self.inside.index.pairs c.args.id c.key_under-key.result c.known-known.result = record { tied = c.self.invariant.tied; well_formed = c.self.invariant.well_formed; at = c.key_under-key.ensures; known = c.known-known.ensures } in
     let found = here _ _ _ _ _ reads in
-    has_one _ found c.self.invariant.counted
+    subst (HasOne c.self.inside.counts) (found_known _ found c.self.view_is c.requires.present) (has_one _ found c.self.invariant.counted)
 
 pub add-requires : goal.add-requires
 add-requires g c = small_less _ _ _ (small _ _ c.self.invariant.well_formed.bounded c.self.invariant.counted) c.remove.ensures
@@ -34,7 +35,7 @@ pub invariant_of-self : goal.invariant_of-self
 invariant_of-self g c =
     let reads : Reads c.self.inside.slots c.self.inside.index.pairs c.args.id c.key_under-key.result c.known-known.result = record { tied = c.self.invariant.tied; well_formed = c.self.invariant.well_formed; at = c.key_under-key.ensures; known = c.known-known.ensures } in
     let found = here _ _ _ _ _ reads in
-    kept_after _ _ _ _ _ _ _ _ _ _ reads c.change.ensures.sets refl (empty_valued (value_at c.self.inside.slots c.key_under-key.result) (found_empty found (ap is_idle (found_known _ found c.self.view_is c.requires.present))) refl) (counted_set _ _ _ _ found c.self.invariant.counted c.remove.ensures c.add.ensures) (line_changed _ _ _ _ _ c.self.invariant.line c.change.ensures.sets (item_known c.self.inside.slots c.key_under-key.result c.known-known.result c.known-known.ensures) c.change.ensures.queue (λ yes. absurd (cc yes))) c.change.ensures.remembered (bound_set _ _ _ _ (λ yes. c.earlier-self-inside.ensures.other) (bound_earlier _ _ _ c.earlier-self-inside.ensures.one c.self.invariant.bound))
+    kept_after _ _ _ _ _ _ _ _ _ _ reads c.change.ensures.sets refl (empty_valued (value_at c.self.inside.slots c.key_under-key.result) (found_empty found (ap is_idle (found_known _ found c.self.view_is c.requires.present))) refl) (counted_set _ _ _ _ found c.self.invariant.counted (subst (HasOneMore c.remove.new.self c.self.inside.counts) (sym (found_known _ found c.self.view_is c.requires.present)) c.remove.ensures) c.add.ensures) (line_changed _ _ _ _ _ c.self.invariant.line c.change.ensures.sets (item_known c.self.inside.slots c.key_under-key.result c.known-known.result c.known-known.ensures) c.change.ensures.queue (λ yes. absurd (cc yes))) c.change.ensures.remembered (bound_set _ _ _ _ (λ yes. c.earlier-self-inside.ensures.other) (bound_earlier _ _ _ c.earlier-self-inside.ensures.one c.self.invariant.last_uses))
 
 pub returns : goal.returns
 returns g c =

@@ -35,7 +35,7 @@ pub invariant_of-self : goal.invariant_of-self
 invariant_of-self g c =
     let reads : Reads c.self.inside.slots c.self.inside.index.pairs c.args.id c.key_under-key.result c.known-known.result = record { tied = c.self.invariant.tied; well_formed = c.self.invariant.well_formed; at = c.key_under-key.ensures; known = c.known-known.ensures } in
     let found = here _ _ _ _ _ reads in
-    kept_after _ _ _ _ _ _ _ _ _ _ reads c.change.ensures.sets refl (empty_valued (value_at c.self.inside.slots c.key_under-key.result) (found_empty found (found_known _ found c.self.view_is c.requires.present)) (set_not_idle c.args.phase c.requires.phase)) (counted_set _ _ _ _ found c.self.invariant.counted c.remove.ensures c.add.ensures) (line_changed _ _ _ _ _ c.self.invariant.line c.change.ensures.sets (item_known c.self.inside.slots c.key_under-key.result c.known-known.result c.known-known.ensures) c.change.ensures.queue (λ yes. absurd (cc (yes, set_not_queued c.args.phase c.requires.phase)))) c.change.ensures.remembered (bound_set _ _ _ _ (λ yes. absurd (cc (yes, set_not_lent c.args.phase c.requires.phase))) c.self.invariant.bound)
+    kept_after _ _ _ _ _ _ _ _ _ _ reads c.change.ensures.sets refl (empty_valued (value_at c.self.inside.slots c.key_under-key.result) (found_empty found (found_known _ found c.self.view_is c.requires.present)) (set_not_idle c.args.phase c.requires.phase)) (counted_set _ _ _ _ found c.self.invariant.counted c.remove.ensures c.add.ensures) (line_changed _ _ _ _ _ c.self.invariant.line c.change.ensures.sets (item_known c.self.inside.slots c.key_under-key.result c.known-known.result c.known-known.ensures) c.change.ensures.queue (λ yes. absurd (cc (yes, set_not_queued c.args.phase c.requires.phase)))) c.change.ensures.remembered (bound_set _ _ _ _ (λ yes. absurd (cc (yes, set_not_lent c.args.phase c.requires.phase))) c.self.invariant.last_uses)
 
 pub returns : goal.returns
 returns g c =

@@ -26,7 +26,7 @@ invariant_of-self g c =
     let reads : Reads c.self.inside.slots c.self.inside.index.pairs c.args.id c.key_under-key.result c.known-known.result = record { tied = c.self.invariant.tied; well_formed = c.self.invariant.well_formed; at = c.key_under-key.ensures; known = c.known-known.ensures } in
     let found = here _ _ _ _ _ reads in
     let seen = found_known _ found c.self.view_is c.requires.present in
-    kept_after _ _ _ _ _ _ _ _ _ _ reads c.change.ensures.sets refl (empty_valued (value_at c.self.inside.slots c.key_under-key.result) (found_empty found (ap is_idle seen)) (ap is_idle seen)) (counted_same _ _ found refl c.self.invariant.counted) (line_changed _ _ _ _ _ c.self.invariant.line c.change.ensures.sets (item_known c.self.inside.slots c.key_under-key.result c.known-known.result c.known-known.ensures) c.change.ensures.queue (λ yes. absurd (cc (yes, ap is_queued seen)))) c.change.ensures.remembered (bound_set _ _ _ _ (λ yes. c.earlier-self-inside.ensures.one) (bound_earlier _ _ _ c.earlier-self-inside.ensures.other c.self.invariant.bound))
+    kept_after _ _ _ _ _ _ _ _ _ _ reads c.change.ensures.sets refl (empty_valued (value_at c.self.inside.slots c.key_under-key.result) (found_empty found (ap is_idle seen)) (ap is_idle seen)) (counted_same _ _ found refl c.self.invariant.counted) (line_changed _ _ _ _ _ c.self.invariant.line c.change.ensures.sets (item_known c.self.inside.slots c.key_under-key.result c.known-known.result c.known-known.ensures) c.change.ensures.queue (λ yes. absurd (cc (yes, ap is_queued seen)))) c.change.ensures.remembered (bound_set _ _ _ _ (λ yes. c.earlier-self-inside.ensures.one) (bound_earlier _ _ _ c.earlier-self-inside.ensures.other c.self.invariant.last_uses))
 
 pub returns : goal.returns
 returns g c =

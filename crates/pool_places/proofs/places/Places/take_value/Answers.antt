@@ -1,4 +1,5 @@
 use Rattle.std.proofs.Common.{None, refl, ap, sym, ◌∙◌, arith, subst}
+use Rattle.pool_places.specs.Counts.{HasOne, HasOneMore}
 use Rattle.pool_journal.specs.Queue.{is_queued}
 use Rattle.pool_places.proofs.SlotLists.{item_known}
 use Rattle.pool_slots.specs.SlotsModel.{is_in}
@@ -31,7 +32,7 @@ pub remove-requires : goal.remove-requires
 remove-requires g c =
     let reads : Reads c.self.inside.slots c.self.inside.index.pairs c.args.id c.key_under-key.result c.known-known.result = record { tied = c.self.invariant.tied; well_formed = c.self.invariant.well_formed; at = c.key_under-key.ensures; known = c.known-known.ensures } in
     let found = here _ _ _ _ _ reads in
-    has_one _ found c.self.invariant.counted
+    subst (HasOne c.self.inside.counts) (found_known _ found c.self.view_is c.requires.present) (has_one _ found c.self.invariant.counted)
 
 pub add-requires : goal.add-requires
 add-requires g c = small_less _ _ _ (small _ _ c.self.invariant.well_formed.bounded c.self.invariant.counted) c.remove.ensures
@@ -52,7 +53,7 @@ invariant_of-self g c =
     let valued = value_set c.self.inside.slots c.take-value.new.self c.key_under-key.result c.known-known.result None c.known-known.ensures c.take-value.ensures.sets in
     let sets = sets_after _ _ _ _ _ _ _ valued c.change.ensures.sets in
     let queue = c.change.ensures.queue ∙ ap (λ (ks : List ℕ). if is_queued c.args.phase then ks else without_key c.key_under-key.result ks) c.take-value.ensures.queue in
-    kept_after _ _ _ _ _ _ _ _ _ _ reads sets refl (sym (taken_not_idle c.args.phase c.requires.phase)) (counted_set _ _ _ _ found c.self.invariant.counted c.remove.ensures c.add.ensures) (line_changed _ _ _ _ _ c.self.invariant.line sets (item_known c.self.inside.slots c.key_under-key.result c.known-known.result c.known-known.ensures) queue (λ yes. (ap is_queued (found_known _ found c.self.view_is c.requires.present), refl))) c.change.ensures.remembered (bound_set _ _ _ _ (λ yes. absurd (cc (yes, taken_not_lent c.args.phase c.requires.phase))) c.self.invariant.bound)
+    kept_after _ _ _ _ _ _ _ _ _ _ reads sets refl (sym (taken_not_idle c.args.phase c.requires.phase)) (counted_set _ _ _ _ found c.self.invariant.counted (subst (HasOneMore c.remove.new.self c.self.inside.counts) (sym (found_known _ found c.self.view_is c.requires.present)) c.remove.ensures) c.add.ensures) (line_changed _ _ _ _ _ c.self.invariant.line sets (item_known c.self.inside.slots c.key_under-key.result c.known-known.result c.known-known.ensures) queue (λ yes. (ap is_queued (found_known _ found c.self.view_is c.requires.present), refl))) c.change.ensures.remembered (bound_set _ _ _ _ (λ yes. absurd (cc (yes, taken_not_lent c.args.phase c.requires.phase))) c.self.invariant.last_uses)
 
 pub returns : goal.returns
 returns g c =

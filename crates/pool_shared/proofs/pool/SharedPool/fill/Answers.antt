@@ -1,6 +1,6 @@
 use Rattle.std.proofs.Common.{refl, arith}
 use Rattle.pool_shared.proofs.Traces.{comes_on, goes_far}
-use Rattle.pool_shared.proofs.Stocking.{bounded_parked, one_parked, one_lost, all_filled, filled_part}
+use Rattle.pool_shared.proofs.Stocking.{bounded_parked, one_parked, one_lost, all_filled, all_counted, filled_part}
 use Rattle.pool_shared.proofs.pool.SharedPool.fill.Goals as goal
 
 pub loop-preserved-in-Ok-Idle : goal.loop-preserved-in-Ok-Idle
@@ -8,7 +8,7 @@ loop-preserved-in-Ok-Idle g c =
     let i = c.loop.invariant in
     let e = c.in-Ok-Idle.ensures in (
       comes_on g.B.Room.settings _ _ _ i.0 e.advances,
-      one_parked g.B.Room.settings i.1.0 c.loop.parked _ _ _ i.1.1 i.1.2 c.in-Ok-Idle.field-0 _ c.in-Ok-Idle.field-0-is refl (omega (arith, e.bounded, bounded_parked g.B.Room.settings i.1.0 _ _ i.1.2)) (e.turn i.1.0).0,
+      one_parked g.B.Room.settings i.1.0 c.loop.parked _ _ _ i.1.1 i.1.2 c.in-Ok-Idle.field-0 _ c.in-Ok-Idle.field-0-is refl (e.turn i.1.0).0,
     )
 
 pub loop-preserved : goal.loop-preserved
@@ -30,6 +30,11 @@ returns-in-Ok-NoPlace-clause-spec g c =
     let i = c.loop.invariant in
     let turn = c.in-Ok-NoPlace.ensures.turn i.1.0 in
     all_filled g.B.Room.settings i.1.0 c.loop.parked _ _ _ i.1.1 i.1.2 c.in-Ok-NoPlace.field-0 c.in-Ok-NoPlace.field-0-is turn.0 turn.1
+
+pub returns-in-Ok-NoPlace-clause-parked : goal.returns-in-Ok-NoPlace-clause-parked
+returns-in-Ok-NoPlace-clause-parked g c =
+    let i = c.loop.invariant in
+    all_counted g.B.Room.settings i.1.0 c.loop.parked _ _ _ i.1.1 i.1.2 c.in-Ok-NoPlace.field-0 c.in-Ok-NoPlace.field-0-is (c.in-Ok-NoPlace.ensures.turn i.1.0).0
 
 pub returns-in-Err-clause-spec : goal.returns-in-Err-clause-spec
 returns-in-Err-clause-spec g c =

@@ -55,12 +55,12 @@ class CountedFactory<T> extends BasePooledObjectFactory<T> {
         return isBare ? new CountedFactory<>(factory, pool) : new Hooked<>(factory, pool);
     }
 
-    /** Returns whether a method of a factory is that of its base class, which does nothing. */
+    /** Returns whether a method of a factory is that of its base class, which does nothing; false if none can be looked up, for lack of a class. */
     private static boolean inherits(PooledObjectFactory<?> factory, String method) {
         try {
             Class<?> declaring = factory.getClass().getMethod(method, PooledObject.class).getDeclaringClass();
             return declaring.isAssignableFrom(BasePooledObjectFactory.class);
-        } catch (NoSuchMethodException e) {
+        } catch (NoSuchMethodException | LinkageError e) {
             return false;
         }
     }

@@ -1,10 +1,15 @@
 package org.apache.commons.pool2.impl;
 
+import io.github.zuphinka.Leak;
+import io.github.zuphinka.Metrics;
+import io.github.zuphinka.ZuphinkaPool;
+import java.nio.file.Path;
 import java.time.Duration;
 import java.util.NoSuchElementException;
 import java.util.Set;
 import java.util.concurrent.TimeUnit;
 import java.util.concurrent.locks.ReentrantLock;
+import java.util.function.Consumer;
 import org.apache.commons.pool2.DestroyMode;
 import org.apache.commons.pool2.ObjectPool;
 import org.apache.commons.pool2.PooledObject;
@@ -22,7 +27,9 @@ import org.apache.commons.pool2.UsageTracking;
  * Settings that a pool cannot have are thrown by each call that borrows, adds or evicts, as an {@link IllegalArgumentException}; all others go on with the
  * settings before.
  *
- * <p>If the property {@value ProvedPool#JOURNALS} names a folder, each pool stores its journal in a folder of its own there.
+ * <p>If the property {@value ProvedPool#JOURNALS} names a folder, each pool stores its journal there, in a folder with the name of its MBean ({@link
+ * io.github.zuphinka.Journal#inFolder}). The library has not the members {@link #metrics}, {@link #flushJournal}, {@link #getJournalFolder} and those
+ * for leaks.
  *
  * @param <T> the type of the objects
  */
@@ -30,8 +37,10 @@ public class GenericObjectPool<T> extends BaseGenericObjectPool<T> implements Ob
     private static final String BEAN_BASE = "org.apache.commons.pool2:type=GenericObjectPool,name=";
     private static final String TIMEOUT = "Timeout waiting for idle object";
     private static final String EXHAUSTED = "Pool exhausted";
-    /** The messages of borrows that got no object. */
-    private static final Set<String> MESSAGES = Set.of(EXHAUSTED, TIMEOUT, "Unable to activate object", "Unable to validate object");
+    /** What follows these in a message of the pool: its name, and the numbers of objects. */
+    private static final String NUMBERS = ": pool ";
+    /** The other messages of borrows that got no object. */
+    private static final Set<String> MESSAGES = Set.of("Unable to activate object", "Unable to validate object");
 
     private final PooledObjectFactory<T> factory;
     private final CountedFactory<T> counted;
@@ -95,8 +104,8 @@ public class GenericObjectPool<T> extends BaseGenericObjectPool<T> implements Ob
      * Lends an object: an idle one, or a new one if there is a free place. Otherwise it waits, as long as {@code maxWait} says.
      *
      * @return an object that no other caller has, until it is returned, invalidated or abandoned
-     * @throws NoSuchElementException if no object and no place is free, and the settings say not to wait or the time is over; or if a new object failed
-     *     its activation or its test
+     * @throws NoSuchElementException if no object and no place is free, and the settings say not to wait or the time is over: after the library's message
+     *     it has the pool's name, how long the borrow waited, and the numbers of objects. Or if a new object failed its activation or its test
      * @throws IllegalStateException if the pool is closed
      * @throws InterruptedException if the thread is interrupted, or the pool is closed, while it waits
      * @throws Exception if the factory fails to make an object; the same exception
@@ -170,9 +179,11 @@ public class GenericObjectPool<T> extends BaseGenericObjectPool<T> implements Ob
     /** Returns the exception of a borrow that got no object, with the message of the library. Without a longest wait it may not wait. */
     private NoSuchElementException none(NoSuchElementException failure, Duration longest) {
         String given = String.valueOf(failure.getMessage());
-        String timeout = longest == null ? EXHAUSTED : given + ", borrowMaxWaitDuration=" + longest;
-        String message = appendStats(given.equals(TIMEOUT) ? timeout : given);
-        boolean isOwn = failure.getClass() == NoSuchElementException.class && MESSAGES.contains(given);
+        boolean isTimeout = given.startsWith(TIMEOUT + NUMBERS);
+        String timeout = longest == null ? EXHAUSTED : TIMEOUT + ", borrowMaxWaitDuration=" + longest;
+        String message = appendStats(isTimeout ? timeout + given.substring(TIMEOUT.length()) : given);
+        boolean hasNumbers = isTimeout || given.startsWith(EXHAUSTED + NUMBERS);
+        boolean isOwn = failure.getClass() == NoSuchElementException.class && (hasNumbers || MESSAGES.contains(given));
         if (!isOwn || message.equals(given)) {
             return failure;
         }
@@ -316,7 +327,7 @@ public class GenericObjectPool<T> extends BaseGenericObjectPool<T> implements Ob
      * ends the eviction timer and unregisters the MBean, also if the factory throws an {@link Error}. A second close has no effect, and does not wait for
      * the first.
      *
-     * @throws StackOverflowError if the thread has less than 120 KiB of its stack left; the pool is open, and may be closed later
+     * @throws StackOverflowError if the thread has too little of its stack left; the pool is open, and may be closed later
      */
     @Override
     public void close() {
@@ -480,6 +491,60 @@ public class GenericObjectPool<T> extends BaseGenericObjectPool<T> implements Ob
     /** Returns the wrapper of an object; null if it is not of this pool. */
     PooledObject<T> getPooledObject(T obj) {
         return pool.wrapperOf(obj);
+    }
+
+    // What the library has not.
+
+    /**
+     * Returns the state of the pool at one moment, to be written as a text in the OpenMetrics format.
+     *
+     * @param name what tells the pool from others in that text, any text
+     * @return the metrics, which later calls do not change
+     * @throws NullPointerException if the name is null
+     */
+    public Metrics metrics(String name) {
+        return pool.metrics(name);
+    }
+
+    /** Stores all entries of a journal that is stored, now. It has no effect on one that is dropped. */
+    public void flushJournal() {
+        pool.flushJournal();
+    }
+
+    /**
+     * Returns the folder with the journal.
+     *
+     * @return the folder that was made for this pool; null if its journal is dropped
+     */
+    public Path getJournalFolder() {
+        return pool.getJournalFolder();
+    }
+
+    /**
+     * Has each loan told once that lasts longer than a limit, as {@link ZuphinkaPool#setLeakDetectionThreshold}.
+     *
+     * @param value the limit; 0 or negative: none is told
+     */
+    public void setLeakDetectionThreshold(Duration value) {
+        pool.setLeakDetectionThreshold(value);
+    }
+
+    /**
+     * Sets what is told of leaks, as {@link ZuphinkaPool#setLeakListener}.
+     *
+     * @param listener what is told; not null
+     */
+    public void setLeakListener(Consumer<Leak> listener) {
+        pool.setLeakListener(listener);
+    }
+
+    /**
+     * Sets whether each borrow notes its stack, as {@link ZuphinkaPool#setLeakStackTraces}.
+     *
+     * @param value whether it does; false by default
+     */
+    public void setLeakStackTraces(boolean value) {
+        pool.setLeakStackTraces(value);
     }
 
     @Override

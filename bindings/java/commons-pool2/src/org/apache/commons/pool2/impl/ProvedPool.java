@@ -4,7 +4,6 @@ import io.github.zuphinka.Journal;
 import io.github.zuphinka.ZuphinkaPool;
 import java.io.IOException;
 import java.io.UncheckedIOException;
-import java.nio.file.Files;
 import java.nio.file.Path;
 import org.apache.commons.pool2.PooledObject;
 
@@ -25,28 +24,39 @@ final class ProvedPool<T> extends ZuphinkaPool<T> {
     private int setters;
 
     ProvedPool(GenericObjectPool<T> owner, CountedFactory<T> factory) {
-        super(factory, settingsOf(owner), null, journal());
+        super(factory, settingsOf(owner), null, journal(owner));
         this.owner = owner;
         this.factory = factory;
         blocks = owner.getBlockWhenExhausted();
     }
 
-    private static Journal journal() {
+    private static Journal journal(GenericObjectPool<?> owner) {
         String parent = System.getProperty(JOURNALS);
         if (parent == null) {
             return Journal.dropped();
         }
         try {
-            return Journal.inFolder(Files.createTempDirectory(Files.createDirectories(Path.of(parent)), "pool-"));
+            return Journal.inFolder(Path.of(parent).resolve(folderOf(owner)));
         } catch (IOException e) {
             throw new UncheckedIOException(e);
         }
+    }
+
+    /** Returns what tells a pool from others: the name of its MBean; without one the class of its factory. */
+    private static String nameOf(GenericObjectPool<?> owner) {
+        return owner.getJmxName() == null ? "of " + owner.getFactory().getClass().getName() : owner.getJmxName().toString();
+    }
+
+    /** Returns the same as the name of a folder, with {@code _} for what such a name should not have. */
+    private static String folderOf(GenericObjectPool<?> owner) {
+        return nameOf(owner).replaceAll("[^A-Za-z0-9.,:=$-]", "_");
     }
 
     /** Returns the settings of a pool, except those of its base class alone: of its timer, its MBean and its messages. */
     private static <T> GenericObjectPoolConfig<T> settingsOf(GenericObjectPool<T> pool) {
         GenericObjectPoolConfig<T> config = new GenericObjectPoolConfig<>();
         config.setJmxEnabled(false);
+        config.setJmxNamePrefix(nameOf(pool));
         config.setEvictionPolicy(ToldPolicy.of(pool));
         config.setFairness(pool.getFairness());
         config.setLifo(pool.getLifo());
