@@ -378,19 +378,28 @@ static char *read_file(const char *path, size_t *length) {
   return bytes;
 }
 
+/* The bytes of the control character that begins here, U+0000 to U+001F and U+007F in one, U+0080 to U+009F in two; 0 where none does. */
+static size_t control_at(const struct text *key, size_t n) {
+  const unsigned char *at = (const unsigned char *)key->bytes + n;
+  if (*at < 32 || *at == 127) return 1;
+  return n + 1 < key->length && at[0] == 0xc2 && at[1] < 0xa0 ? 2 : 0;
+}
+
 /* Appends a key as it is told on one line: where it has a control character, these and backslashes stand as in TOML. */
 static void append_key(struct text *text, const struct text *key) {
   static const char letters[] = {['\b'] = 'b', ['\t'] = 't', ['\n'] = 'n', ['\f'] = 'f', ['\r'] = 'r', ['\\'] = '\\'};
   bool escapes = false;
-  for (size_t n = 0; n < key->length; n++) escapes |= (unsigned char)key->bytes[n] < 32 || key->bytes[n] == 127;
+  for (size_t n = 0; n < key->length; n++) escapes |= control_at(key, n) != 0;
   for (size_t n = 0; n < key->length; n++) {
     unsigned char byte = (unsigned char)key->bytes[n];
     char shown[8] = {(char)byte};
-    if (escapes && (byte < 32 || byte == 127 || byte == '\\')) {
+    size_t controls = control_at(key, n);
+    if (escapes && (controls || byte == '\\')) {
+      n += controls == 2;
       if (byte < sizeof letters && letters[byte])
         snprintf(shown, sizeof shown, "\\%c", letters[byte]);
       else
-        snprintf(shown, sizeof shown, "\\u%04X", byte);
+        snprintf(shown, sizeof shown, "\\u%04X", (unsigned char)key->bytes[n]);
     }
     append(text, shown, strlen(shown));
   }

@@ -16,10 +16,10 @@ import java.util.NoSuchElementException;
 import java.util.Random;
 import java.util.Set;
 import java.util.concurrent.Callable;
-import java.util.concurrent.CountDownLatch;
 import java.util.concurrent.FutureTask;
 import java.util.concurrent.atomic.AtomicBoolean;
 import java.util.concurrent.atomic.AtomicInteger;
+import java.util.function.BooleanSupplier;
 import java.util.function.Consumer;
 import java.util.stream.Collectors;
 import java.util.stream.Stream;
@@ -563,9 +563,10 @@ public final class Reconfigures extends Expectations {
 
     // Threads.
 
-    private static Object calls(ZuphinkaPool<Item> pool, AtomicInteger faults, int seed) throws Exception {
+    /** Calls until the settings have changed often enough, too. */
+    private static Object calls(ZuphinkaPool<Item> pool, AtomicInteger faults, BooleanSupplier hasChanged, int seed) throws Exception {
         Random random = new Random(seed);
-        for (int round = 0; round < ROUNDS; round++) {
+        for (int round = 0; round < ROUNDS || !hasChanged.getAsBoolean(); round++) {
             Item item;
             try {
                 item = random.nextInt(4) == 0 ? pool.borrowObject(Duration.ofMillis(50)) : pool.borrowObject();
@@ -590,7 +591,7 @@ public final class Reconfigures extends Expectations {
         return "done";
     }
 
-    private static Object changes(ZuphinkaPool<Item> pool, AtomicBoolean isOver, int seed) {
+    private static Object changes(ZuphinkaPool<Item> pool, AtomicBoolean isOver, AtomicInteger changes, int seed) {
         Random random = new Random(seed);
         GenericObjectPoolConfig<Item> one = config(2);
         one.setTestOnBorrow(true);
@@ -605,37 +606,30 @@ public final class Reconfigures extends Expectations {
         other.setEvictionPolicy((settings, pooled, idle) -> idle > 2);
         AbandonedConfig abandoned = new AbandonedConfig();
         abandoned.setRemoveAbandonedOnBorrow(true);
-        int number = 0;
         while (!isOver.get()) {
             boolean isOne = random.nextBoolean();
             pool.reconfigure(isOne ? one : other, isOne && random.nextBoolean() ? abandoned : null);
-            number++;
+            changes.incrementAndGet();
         }
         pool.setConfig(other);
-        return number;
+        return "done";
     }
 
     private static void threads(Bare factory, Journal journal, int seed) throws Exception {
         ZuphinkaPool<Item> pool = new ZuphinkaPool<>(factory, config(3), null, journal);
         AtomicInteger faults = new AtomicInteger();
+        AtomicInteger changes = new AtomicInteger();
+        int wanted = seed < 2 ? 100 : 2;
         AtomicBoolean isOver = new AtomicBoolean();
-        CountDownLatch left = new CountDownLatch(THREADS);
         List<FutureTask<Object>> threads = new ArrayList<>();
         for (int thread = 0; thread < THREADS; thread++) {
             int number = THREADS * seed + thread;
-            threads.add(begun(() -> {
-                try {
-                    return calls(pool, faults, number);
-                } finally {
-                    left.countDown();
-                }
-            }));
+            threads.add(begun(() -> calls(pool, faults, () -> changes.get() >= wanted, number)));
         }
-        FutureTask<Object> changing = begun(() -> changes(pool, isOver, seed));
+        FutureTask<Object> changing = begun(() -> changes(pool, isOver, changes, seed));
         threads.forEach(thread -> expect("calls while settings change", "done", within(thread)));
         isOver.set(true);
-        Object number = within(changing);
-        expect("changes: " + number, true, number instanceof Integer && (Integer) number > (seed < 2 ? 100 : 1));
+        expect("changes while others call", "done", within(changing));
         expect("none is lent", 0, pool.getNumActive());
         expect("its objects", factory.alive.get(), pool.getNumIdle());
         List<Item> lent = lend(pool, 5);
