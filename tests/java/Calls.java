@@ -1470,12 +1470,12 @@ public final class Calls extends Expectations {
         AbandonedConfig abandoned = new AbandonedConfig();
         abandoned.setRemoveAbandonedOnBorrow(true);
         expect("a kept one", 8, lentBy(Journal.kept().limit(49), null));
-        expect("a stored one", 8, lentBy(Journal.storedBy(segment -> {}).limit(35), null));
+        expect("a stored one", 8, lentBy(whenDue(segment -> {}).limit(35), null));
         expect("a dropped one", 8, lentBy(Journal.dropped().limit(35), null));
         expect("one whose borrows reclaim", 8, lentBy(Journal.kept().limit(57), abandoned));
         String small = "IllegalArgumentException: journal limit: %d is reached before all objects are lent (maxTotal 8)";
         expect("too small a kept one", String.format(small, 48), lentBy(Journal.kept().limit(48), null));
-        expect("too small a stored one", String.format(small, 34), lentBy(Journal.storedBy(segment -> {}).limit(34), null));
+        expect("too small a stored one", String.format(small, 34), lentBy(whenDue(segment -> {}).limit(34), null));
         expect("too small a dropped one", String.format(small, 34), lentBy(Journal.dropped().limit(34), null));
         expect("too small a one whose borrows reclaim", String.format(small, 56), lentBy(Journal.kept().limit(56), abandoned));
         expect("the smallest", String.format(small, 1), lentBy(Journal.kept().limit(1), null));
@@ -1503,7 +1503,7 @@ public final class Calls extends Expectations {
 
     private static void throwingSink() throws Exception {
         AtomicInteger noted = new AtomicInteger();
-        Journal journal = Journal.storedBy(segment -> {
+        Journal journal = whenDue(segment -> {
             throw new IllegalArgumentException("sink");
         });
         ZuphinkaPool<String> pool = new ZuphinkaPool<>(new Texts(), config(), null, journal.limit(100)) {
@@ -1529,7 +1529,7 @@ public final class Calls extends Expectations {
 
     private static void journals(Path folder) throws Exception {
         ZuphinkaPool<String> dropping = new ZuphinkaPool<>(new Texts(), config(), null, Journal.dropped().limit(100));
-        Journal stored = Journal.inFolder(folder.resolve("stored")).limit(100).storeEvery(Duration.ZERO);
+        Journal stored = whenDue(folder.resolve("stored")).limit(100);
         ZuphinkaPool<String> storing = new ZuphinkaPool<>(new Texts(), config(), null, stored);
         ZuphinkaPool<String> keeping = new ZuphinkaPool<>(new Texts(), config(), null, Journal.kept().limit(100));
         int drops = 0;
@@ -1568,7 +1568,7 @@ public final class Calls extends Expectations {
     /** An interrupt keeps no segment from being stored. */
     private static void interruptedStore(Path to) throws Exception {
         List<Exception> noted = new ArrayList<>();
-        Journal journal = Journal.inFolder(to).storeEvery(Duration.ZERO);
+        Journal journal = whenDue(to);
         ZuphinkaPool<String> pool = new ZuphinkaPool<>(new Texts(), config(), null, journal) {
             @Override
             protected void swallowed(Exception failure) {
@@ -1609,7 +1609,7 @@ public final class Calls extends Expectations {
     private static void failingSink() throws Exception {
         List<Segment> stored = new ArrayList<>();
         boolean[] isBroken = {true};
-        Journal journal = Journal.storedBy(segment -> {
+        Journal journal = whenDue(segment -> {
             if (isBroken[0]) {
                 throw new IOException("sink");
             }

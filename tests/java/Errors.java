@@ -13,7 +13,6 @@ import java.util.concurrent.BlockingQueue;
 import java.util.concurrent.LinkedBlockingQueue;
 import java.util.concurrent.atomic.AtomicInteger;
 import javax.management.MBeanServer;
-import org.apache.commons.pool2.DestroyMode;
 import org.apache.commons.pool2.PooledObject;
 import org.apache.commons.pool2.impl.AbandonedConfig;
 import org.apache.commons.pool2.impl.DefaultPooledObject;
@@ -110,7 +109,7 @@ public final class Errors extends Expectations {
 
     private static void fullStacks() throws Exception {
         for (int number = 0; number < POOLS; number++) {
-            Journal journal = number % 2 == 0 ? Journal.dropped().limit(100) : Journal.storedBy(segment -> {}).limit(100);
+            Journal journal = number % 2 == 0 ? Journal.dropped().limit(100) : whenDue(segment -> {}).limit(100);
             ZuphinkaPool<Object> pool = new ZuphinkaPool<>(new Plain(), config(1), null, journal);
             Diver diver = number / 2 % 2 == 0 ? new Diver(pool) : new LeaseDiver(pool);
             Thread thread = new Thread(null, diver, "diver", SMALL_STACK);
@@ -136,7 +135,7 @@ public final class Errors extends Expectations {
     /** A flush on a full stack keeps no lock, neither of the pool nor of its sink. */
     private static void refusedFlushes() throws Exception {
         for (int number = 0; number < POOLS / 10; number++) {
-            ZuphinkaPool<Object> pool = new ZuphinkaPool<>(new Plain(), config(1), null, Journal.storedBy(segment -> {}).limit(100));
+            ZuphinkaPool<Object> pool = new ZuphinkaPool<>(new Plain(), config(1), null, whenDue(segment -> {}).limit(100));
             pool.returnObject(pool.borrowObject());
             Thread thread = new Thread(null, new FlushDiver(pool), "diver", SMALL_STACK);
             thread.start();
@@ -230,7 +229,7 @@ public final class Errors extends Expectations {
     /** An error of a sink, or of what receives its failures, costs no place. */
     private static void sinks() throws Exception {
         StackOverflowError error = new StackOverflowError("sink");
-        Journal failing = Journal.storedBy(segment -> {
+        Journal failing = whenDue(segment -> {
             throw error;
         }).limit(100);
         for (Plain factory : List.of(new Plain(), new Fragile())) {
@@ -274,7 +273,7 @@ public final class Errors extends Expectations {
 
     /** What receives failures may call the pool: it gets no report within a report. */
     private static void reports() throws Exception {
-        Borrowing pool = new Borrowing(Journal.storedBy(segment -> {
+        Borrowing pool = new Borrowing(whenDue(segment -> {
             throw new IOException("sink");
         }).limit(100));
         Object ending;
@@ -459,7 +458,7 @@ public final class Errors extends Expectations {
         GenericObjectPoolConfig<Object> config = config(1);
         config.setTimeBetweenEvictionRuns(Duration.ofHours(1));
         List<Long> stored = new ArrayList<>();
-        ZuphinkaPool<Object> pool = new ZuphinkaPool<>(told, config, null, Journal.storedBy(segment -> stored.add(segment.entries())));
+        ZuphinkaPool<Object> pool = new ZuphinkaPool<>(told, config, null, whenDue(segment -> stored.add(segment.entries())));
         pool.addObject();
         told.failing = "destroy";
         expect("a close that ends in an error", "OutOfMemoryError: a call", ending(pool::close));

@@ -1,4 +1,9 @@
+import io.github.zuphinka.Journal;
+import io.github.zuphinka.SegmentSink;
 import io.github.zuphinka.ZuphinkaPool;
+import java.io.IOException;
+import java.nio.file.Path;
+import java.time.Duration;
 import java.util.ArrayList;
 import java.util.Collections;
 import java.util.List;
@@ -73,6 +78,15 @@ abstract class Expectations {
     static String counts(ZuphinkaPool<?> pool) {
         return pool.getNumIdle() + " idle, " + pool.getNumActive() + " active, " + pool.getCreatedCount() + " created, "
                 + pool.getDestroyedCount() + " destroyed";
+    }
+
+    /** Returns a journal that is stored by calls of the pool alone, and by no thread of its own. */
+    static Journal whenDue(SegmentSink sink) {
+        return Journal.storedBy(sink).storeEvery(Duration.ZERO);
+    }
+
+    static Journal whenDue(Path folder) throws IOException {
+        return Journal.inFolder(folder).storeEvery(Duration.ZERO);
     }
 
     /** Waits until something is so, or would hang. */

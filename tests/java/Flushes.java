@@ -29,10 +29,6 @@ public final class Flushes extends Expectations {
         return new ZuphinkaPool<>(new Plain(), config, null, journal);
     }
 
-    private static Journal stored(Path folder) throws IOException {
-        return Journal.inFolder(folder).storeEvery(Duration.ZERO);
-    }
-
     private static void pairs(ZuphinkaPool<Object> pool, int number) throws Exception {
         for (int pair = 0; pair < number; pair++) {
             pool.returnObject(pool.borrowObject());
@@ -82,7 +78,7 @@ public final class Flushes extends Expectations {
 
     /** The entries of several flushes are in one file, with one base. */
     private static void oneFile(Path folder) throws Exception {
-        ZuphinkaPool<Object> pool = pool(stored(folder));
+        ZuphinkaPool<Object> pool = pool(whenDue(folder));
         for (int flush = 0; flush < 10; flush++) {
             pairs(pool, 1);
             pool.flushJournal();
@@ -97,7 +93,7 @@ public final class Flushes extends Expectations {
 
     /** No file has more entries than a check allows, also while more objects are lent than at the ends of flushes. */
     private static void fullFiles(Path folder) throws Exception {
-        ZuphinkaPool<Object> pool = pool(stored(folder).limit(80));
+        ZuphinkaPool<Object> pool = pool(whenDue(folder).limit(80));
         for (int round = 0; round < 10; round++) {
             pairs(pool, 3);
             pool.flushJournal();
@@ -117,7 +113,7 @@ public final class Flushes extends Expectations {
 
     /** A file that has reached 16 MiB gets no more entries. */
     private static void longFiles(Path folder) throws Exception {
-        ZuphinkaPool<Object> pool = pool(stored(folder).limit(1L << 32));
+        ZuphinkaPool<Object> pool = pool(whenDue(folder).limit(1L << 32));
         long least = 16 << 20;
         while (segments(pool).size() < 2) {
             pairs(pool, 50_000);
@@ -125,6 +121,16 @@ public final class Flushes extends Expectations {
         }
         long first = Files.size(segments(pool).get(0));
         expect("the bytes of a long file", true, first >= least && first < least + (10 << 20));
+        pool.close();
+    }
+
+    /** A sink of the user's own gets the loan of an object that is not returned, also if no time is set for that. */
+    private static void usualSink() throws Exception {
+        AtomicLong stored = new AtomicLong();
+        ZuphinkaPool<Object> pool = pool(Journal.storedBy(segment -> stored.addAndGet(segment.entries())));
+        pool.borrowObject();
+        until(() -> stored.get() == pool.getCounts().steps());
+        expect("the loan in a sink", 2L, stored.get());
         pool.close();
     }
 
@@ -180,7 +186,7 @@ public final class Flushes extends Expectations {
 
     /** The names of the threads that took steps are in a file, once each. */
     private static void callers(Path folder) throws Exception {
-        ZuphinkaPool<Object> pool = pool(stored(folder));
+        ZuphinkaPool<Object> pool = pool(whenDue(folder));
         List<String> wanted = new ArrayList<>();
         for (String name : List.of("worker-1", "a name\nof \u0085 two lines", "\u017Buraw", "")) {
             Thread thread = new Thread(() -> {
@@ -210,6 +216,7 @@ public final class Flushes extends Expectations {
         oneFile(folder.resolve("one"));
         fullFiles(folder.resolve("full"));
         longFiles(folder.resolve("long"));
+        usualSink();
         blockedSink();
         failingSink();
         callers(folder.resolve("callers"));

@@ -100,13 +100,8 @@ public final class Folders extends Expectations {
         }
     }
 
-    /** Returns a journal that is stored when it is told to be. */
-    private static Journal stored(Path folder) throws IOException {
-        return Journal.inFolder(folder).storeEvery(Duration.ZERO);
-    }
-
     private static Noting pool(Path folder) throws IOException {
-        return new Noting(new Texts(), stored(folder));
+        return new Noting(new Texts(), whenDue(folder));
     }
 
     private static List<String> files(Path folder) throws IOException {
@@ -274,7 +269,7 @@ public final class Folders extends Expectations {
     /** What is returned after the close is stored too, also if an object never comes back. */
     private static void returnedLate(Path folder) throws Exception {
         Texts texts = new Texts();
-        Noting pool = new Noting(texts, stored(folder));
+        Noting pool = new Noting(texts, whenDue(folder));
         List<String> lent = new ArrayList<>();
         while (lent.size() < 6) {
             lent.add(pool.borrowObject());
@@ -300,12 +295,12 @@ public final class Folders extends Expectations {
     /** What a borrow adds is stored too if the pool is closed while its object is made, whether that fails or not. */
     private static void closedInMake(Path folder) throws Exception {
         Texts texts = new Texts();
-        Noting pool = new Noting(texts, stored(folder.resolve("made")));
+        Noting pool = new Noting(texts, whenDue(folder.resolve("made")));
         texts.during = pool::close;
         String lent = pool.borrowObject();
         pool.returnObject(lent);
         expect("entries of a borrow during a close", pool.getCounts().steps(), entries(pool.getJournalFolder()));
-        Noting other = new Noting(texts, stored(folder.resolve("failed")));
+        Noting other = new Noting(texts, whenDue(folder.resolve("failed")));
         texts.during = () -> {
             other.close();
             throw new IOException("make");
@@ -322,7 +317,7 @@ public final class Folders extends Expectations {
     private static void returnedInSink() throws Exception {
         List<String> lent = new ArrayList<>();
         List<Noting> pools = new ArrayList<>();
-        Noting pool = new Noting(new Texts(), Journal.storedBy(segment -> {
+        Noting pool = new Noting(new Texts(), whenDue(segment -> {
             if (!lent.isEmpty()) {
                 pools.get(0).returnObject(lent.remove(0));
             }

@@ -3,7 +3,6 @@ import io.github.zuphinka.Segment;
 import io.github.zuphinka.ZuphinkaPool;
 import java.io.IOException;
 import java.lang.management.ManagementFactory;
-import java.nio.charset.StandardCharsets;
 import java.nio.file.Files;
 import java.nio.file.Path;
 import java.time.Duration;
@@ -481,7 +480,7 @@ public final class Reconfigures extends Expectations {
 
     /** The settings are beside the segments that have them. */
     private static void inFolder(Path folder) throws Exception {
-        ZuphinkaPool<Item> pool = new ZuphinkaPool<>(new Bare(), config(4), null, Journal.inFolder(folder).storeEvery(Duration.ZERO));
+        ZuphinkaPool<Item> pool = new ZuphinkaPool<>(new Bare(), config(4), null, whenDue(folder));
         List<Item> lent = lend(pool, 4);
         pool.setMaxTotal(2);
         String fewer = pool.getSettingsText();
@@ -518,7 +517,7 @@ public final class Reconfigures extends Expectations {
     private static void failingSink() throws Exception {
         List<Segment> segments = new ArrayList<>();
         AtomicBoolean isBroken = new AtomicBoolean(true);
-        Noting pool = new Noting(Journal.storedBy(segment -> {
+        Noting pool = new Noting(whenDue(segment -> {
             if (isBroken.get()) {
                 throw new IOException("sink");
             }
@@ -542,7 +541,7 @@ public final class Reconfigures extends Expectations {
         List<Segment> segments = Collections.synchronizedList(new ArrayList<>());
         List<Object> seen = Collections.synchronizedList(new ArrayList<>());
         List<ZuphinkaPool<Item>> pools = new ArrayList<>();
-        ZuphinkaPool<Item> pool = new ZuphinkaPool<>(new Bare(), config(2), null, Journal.storedBy(segment -> {
+        ZuphinkaPool<Item> pool = new ZuphinkaPool<>(new Bare(), config(2), null, whenDue(segment -> {
             segments.add(segment);
             if (segments.size() == 1) {
                 seen.add(within(begun(() -> {

@@ -121,7 +121,7 @@ public final class Refusals extends Expectations {
         private Journal journal() {
             switch (kind) {
                 case STORED:
-                    return Journal.storedBy(this::store).limit(100);
+                    return whenDue(this::store).limit(100);
                 case DROPPED:
                     return Journal.dropped().limit(100);
                 default:
@@ -311,7 +311,7 @@ public final class Refusals extends Expectations {
     /** Fills the heap until no segment has memory in it and the journal is full, and goes on once the heap is empty again. */
     private static void heap() throws Exception {
         long[] next = {0};
-        ZuphinkaPool<Object> pool = new ZuphinkaPool<>(new Things(), new GenericObjectPoolConfig<>(), null, Journal.storedBy(segment -> {
+        ZuphinkaPool<Object> pool = new ZuphinkaPool<>(new Things(), new GenericObjectPoolConfig<>(), null, whenDue(segment -> {
             next[0] = segment.position() == next[0] ? next[0] + segment.entries() : Long.MIN_VALUE;
         }).limit(400_000));
         List<byte[]> ballast = new ArrayList<>();

@@ -53,7 +53,7 @@ public final class RefusedChanges extends Expectations {
     private static int life(String kind, int number, List<Segment> segments) throws Exception {
         GenericObjectPoolConfig<Object> config = new GenericObjectPoolConfig<>();
         config.setJmxEnabled(false);
-        Journal journal = kind.equals("kept") ? Journal.kept() : kind.equals("stored") ? Journal.storedBy(segments::add) : Journal.dropped();
+        Journal journal = kind.equals("kept") ? Journal.kept() : kind.equals("stored") ? whenDue(segments::add) : Journal.dropped();
         ZuphinkaPool<Object> pool = new ZuphinkaPool<>(new Plain(), config, null, journal);
         List<Object> lent = new ArrayList<>();
         int thrown = 0;

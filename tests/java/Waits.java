@@ -113,7 +113,7 @@ public final class Waits extends Expectations {
             SlowSink sink = new SlowSink();
             GenericObjectPoolConfig<Object> config = new GenericObjectPoolConfig<>();
             config.setJmxEnabled(false);
-            ZuphinkaPool<Object> pool = new ZuphinkaPool<>(new Plain(), config, some, Journal.storedBy(sink).limit(100));
+            ZuphinkaPool<Object> pool = new ZuphinkaPool<>(new Plain(), config, some, whenDue(sink).limit(100));
             FutureTask<Object> storing = begun(() -> loans(pool, 20));
             sink.entered.await();
             expect("loans beside a store", "done", within(begun(() -> loans(pool, 5))));
@@ -149,7 +149,7 @@ public final class Waits extends Expectations {
     private static void healthySink() throws Exception {
         SlowSink sink = new SlowSink();
         List<Long> stored = new ArrayList<>();
-        ZuphinkaPool<Object> pool = pool(1, Journal.storedBy(segment -> {
+        ZuphinkaPool<Object> pool = pool(1, whenDue(segment -> {
             sink.store(segment);
             stored.add(segment.entries());
         }).limit(100));
@@ -169,7 +169,7 @@ public final class Waits extends Expectations {
         GenericObjectPoolConfig<Object> config = new GenericObjectPoolConfig<>();
         config.setJmxEnabled(false);
         config.setBlockWhenExhausted(false);
-        ZuphinkaPool<Object> pool = new ZuphinkaPool<>(new Plain(), config, null, Journal.storedBy(sink).limit(100));
+        ZuphinkaPool<Object> pool = new ZuphinkaPool<>(new Plain(), config, null, whenDue(sink).limit(100));
         FutureTask<Object> storing = begun(() -> loans(pool, 20));
         sink.entered.await();
         String full = SLOW;
@@ -188,7 +188,7 @@ public final class Waits extends Expectations {
         GenericObjectPoolConfig<Object> config = new GenericObjectPoolConfig<>();
         config.setJmxEnabled(false);
         config.setMinIdle(8);
-        ZuphinkaPool<Object> pool = new ZuphinkaPool<>(new Plain(), config, null, Journal.storedBy(sink).limit(100));
+        ZuphinkaPool<Object> pool = new ZuphinkaPool<>(new Plain(), config, null, whenDue(sink).limit(100));
         acts.add(() -> {
             for (;;) {
                 pool.evict();
@@ -228,7 +228,7 @@ public final class Waits extends Expectations {
     /** A borrow that waits for room while another thread stores a segment goes on once the journal is cut, here by changed settings. */
     private static void cutBesideAStore() throws Exception {
         SlowSink sink = new SlowSink();
-        ZuphinkaPool<Object> pool = pool(8, Journal.storedBy(sink).limit(100));
+        ZuphinkaPool<Object> pool = pool(8, whenDue(sink).limit(100));
         FutureTask<Object> storing = begun(() -> loans(pool, 20));
         sink.entered.await();
         expect("a journal without room", SLOW, within(begun(() -> untilFull(pool))));
@@ -254,7 +254,7 @@ public final class Waits extends Expectations {
         config.setJmxEnabled(false);
         List<ZuphinkaPool<Object>> pools = new ArrayList<>();
         AtomicInteger stores = new AtomicInteger();
-        Journal journal = Journal.storedBy(segment -> {
+        Journal journal = whenDue(segment -> {
             stores.incrementAndGet();
             within(begun(() -> {
                 Thread.sleep(60);
@@ -278,7 +278,7 @@ public final class Waits extends Expectations {
         AtomicBoolean isBroken = new AtomicBoolean(true);
         List<ZuphinkaPool<?>> pools = new ArrayList<>();
         List<Object> seen = new ArrayList<>();
-        ZuphinkaPool<Object> pool = pool(1, Journal.storedBy(segment -> {
+        ZuphinkaPool<Object> pool = pool(1, whenDue(segment -> {
             if (isBroken.get()) {
                 throw new IOException("sink");
             }
@@ -296,7 +296,7 @@ public final class Waits extends Expectations {
     private static void failingSink() throws Exception {
         AtomicInteger tries = new AtomicInteger();
         boolean[] isBroken = {true};
-        ZuphinkaPool<Object> pool = pool(1, Journal.storedBy(segment -> {
+        ZuphinkaPool<Object> pool = pool(1, whenDue(segment -> {
             tries.incrementAndGet();
             if (isBroken[0]) {
                 throw new IOException("sink");

@@ -13,7 +13,7 @@ import java.util.Objects;
 public final class Journal {
     /** The number of entries that a kept or stored journal has in memory at most, unless {@link #limit} names another: 1,000,000. */
     public static final long DEFAULT_LIMIT = 1_000_000;
-    /** Within which time the entries are stored in a folder, unless {@link #storeEvery} names another: a second. */
+    /** Within which time the entries of a stored journal are stored, unless {@link #storeEvery} names another: a second. */
     public static final Duration DEFAULT_STORE_EVERY = Duration.ofSeconds(1);
 
     /** Where it is stored; both are null if it is not. */
@@ -52,14 +52,14 @@ public final class Journal {
     }
 
     /**
-     * Returns a journal that is stored in segments: each when half of the room in memory is used up, and the rest when the pool closes; with {@link
-     * #storeEvery} also from time to time, and when the virtual machine exits.
+     * Returns a journal that is stored in segments: within a second after the entries were made ({@link #storeEvery}), at a close, and when the virtual
+     * machine exits; also when half of the room in memory is used up.
      *
      * @param sink gets the segments; not null
      * @return a journal that is stored
      */
     public static Journal storedBy(SegmentSink sink) {
-        return new Journal(Objects.requireNonNull(sink), null, false, DEFAULT_LIMIT, Duration.ZERO);
+        return new Journal(Objects.requireNonNull(sink), null, false, DEFAULT_LIMIT, DEFAULT_STORE_EVERY);
     }
 
     /**
@@ -101,7 +101,8 @@ public final class Journal {
      * Returns the same journal with another time within which its entries are stored, by a daemon thread of the pool. A folder has them in one file with
      * those before. A sink gets a segment each time, with a base, which has a line for each object.
      *
-     * @param time the time; 0 or negative: as late as the journal's room allows. It does not matter if the journal is dropped or kept
+     * @param time the time; 0 or negative: by no thread, and so as late as the journal's room allows, and not when the virtual machine exits. It does not
+     *     matter if the journal is dropped or kept
      * @return a new journal; this one is unchanged
      */
     public Journal storeEvery(Duration time) {

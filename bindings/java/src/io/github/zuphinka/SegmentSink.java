@@ -6,9 +6,9 @@ import java.io.IOException;
 @FunctionalInterface
 public interface SegmentSink {
     /**
-     * Stores a segment. Segments come one at a time and in their order, each from a thread whose call found the journal's room low or changed the
-     * settings; a borrow that lends an object leaves this to the next call. That call returns once this does. With {@link Journal#storeEvery} most come
-     * from a thread of the pool. Other calls continue meanwhile, and segments wait for this call to return, until they have 16 MiB of text and the
+     * Stores a segment. Segments come one at a time and in their order: most from a thread of the pool ({@link Journal#storeEvery}), others from a thread
+     * whose call found the journal's room low or changed the settings; a borrow that lends an object leaves this to the next call. That call returns once
+     * this does. Other calls continue meanwhile, and segments wait for this call to return, until they have 16 MiB of text and the
      * journal has no room. Then a borrow waits for this as long as for an object, and another call as long as it takes. A return of a lent object never
      * waits, and a change of the settings holds before it does. This should not call the pool, which does not wait for it in the same thread.
      *

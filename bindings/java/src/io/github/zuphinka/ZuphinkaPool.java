@@ -525,8 +525,8 @@ public class ZuphinkaPool<T> extends ConfiguredPool<T> implements ObjectPool<T>,
      * Closes the pool: nothing is lent any more, threads that wait get an {@link IllegalStateException}, and idle objects are destroyed. Lent ones
      * are destroyed when they are returned. It ends the maintenance thread, for which it waits as long as {@code evictorShutdownTimeout} says,
      * unregisters the MBean, and stores the rest of a journal that is stored, also if the factory throws an {@link Error}. The entries of later
-     * returns are stored by these, each time that there are as many as objects that are still lent, and those in a folder within a second. What the
-     * factory and the sink throw otherwise is passed to {@link #swallowed}. A second close destroys nothing.
+     * returns are stored by these, each time that there are as many as objects that are still lent, and the others in time ({@link Journal#storeEvery}).
+     * What the factory and the sink throw otherwise is passed to {@link #swallowed}. A second close destroys nothing.
      *
      * @throws OutOfMemoryError if there is no memory to cut the rest of a journal that is stored; the pool is closed, and {@link #flushJournal} may
      *     be tried again
