@@ -36,7 +36,7 @@ INSTALLED = {
     "include/zuphinka.h": INCLUDE / "zuphinka.h",
     "include/zuphinka_pool.h": INCLUDE / "zuphinka_pool.h",
     "share/zuphinka/zuphinka_pool.c": SOURCES / "zuphinka_pool.c",
-    **{f"share/zuphinka/zuphinka_pool_{name}.h": SOURCES / f"zuphinka_pool_{name}.h" for name in ("errors", "metrics", "places", "segments", "sleep")},
+    **{f"share/zuphinka/{file.name}": file for file in SOURCES.glob("zuphinka_pool_*.h")},
 }
 # The version of the header, and the names of the shared library: its own, that by which programs load it, and that by which `-lzuphinka` finds it. An
 # interface changes with the minor version until 1.0.0, and then with the major one.

@@ -1,0 +1,147 @@
+/* The state of a pool for threads and of a call, its clock, its lock, and the waits of threads. */
+#ifndef ZUPHINKA_POOL_STATE_H
+#define ZUPHINKA_POOL_STATE_H
+
+#include <pthread.h>
+#include <stdatomic.h>
+#include <stdlib.h>
+#include <unistd.h>
+
+#include "zuphinka_pool.h"
+#include "zuphinka_pool_metrics.h"
+#include "zuphinka_pool_places.h"
+#include "zuphinka_pool_segments.h"
+#include "zuphinka_pool_sleep.h"
+
+enum {
+  CUT = 256, /* the condition of threads that wait for a cut; those before it are for threads that wait for an object */
+  CONDITIONS,
+  MOST_OVERTAKES = 64, /* of a borrow that waits, if the host doesn't say */
+  MOST_LINES = 256,    /* that are copied in one critical section */
+  TRIES = 16,          /* allocations that fail one after the other before a copy gives up */
+  LAG = 10,            /* milliseconds by which the host's clock may be behind before a wait ends that is not over by it, and so without an entry */
+};
+
+struct zuphinka_pool {
+  struct zuphinka_pool_host host;
+  enum zuphinka_pool_journal journal;
+  uint64_t quarter;    /* of the setting journalLimit */
+  uint64_t number;     /* no other pool of the process has it; it is not 0 */
+  uint64_t processors; /* how many the thread that opened the pool may run on, or the most that a set has if that is not known */
+  int64_t opened;
+  pid_t process; /* the process that opened the pool */
+
+  struct segment unstored; /* of the thread that cuts, which needs no lock for it; of the lock if none does */
+
+  pthread_mutex_t lock; /* of all that follows */
+  struct zuphinka core;
+  struct measures measures;
+  struct places places;
+  uint64_t last_loan;   /* its number */
+  uint64_t cuts;        /* how often the journal was cut */
+  uint64_t low;         /* the room below which a segment is stored */
+  bool blocks;          /* of the setting blockWhenExhausted: whether a borrow waits */
+  int64_t longest_wait; /* of the setting maxWaitMillis: for how long, in milliseconds; negative: without a limit */
+  uint64_t cutter;      /* the thread that cuts the journal or stores what was cut off, which no other one may: its number and 1; 0: none */
+  struct condition conditions[CONDITIONS]; /* a thread that waits for an object has that of its ticket, alone if not very many wait */
+};
+
+/* A call of a thread, from its beginning to its end. */
+struct run {
+  struct zuphinka_start start;
+  struct zuphinka_effects next; /* what the thread does next */
+  struct zuphinka_event event;  /* what became of its last action */
+  struct moment first, at;      /* when the clock was first and last read */
+  int64_t began;                /* when its wait began at the earliest, besides what the host's clock says; 0: the pool has a clock of its own */
+  uint64_t wakes;               /* of the condition that it is to sleep on, before that */
+  int64_t limit;                /* when it waits no longer, besides what the settings say */
+  const struct zuphinka_pool_loan *loan; /* whose use it notes, or null */
+  uint64_t place;               /* of the object of its last action, if that has one */
+  void *made;                   /* the object that it made last */
+  bool has_made;                /* it works on no object but those that it made, from then on */
+  bool lacks_memory;            /* for the place of an object that it was to make */
+  bool has_cut;                 /* it cut the journal; the segment is to be stored once it is over */
+};
+
+/* Settings that a pool is to have from a cut on. */
+struct change {
+  const char *text;
+  size_t length;
+  struct zuphinka_setup setup;
+  uint64_t first; /* once it is made: the position of the first entry with these settings */
+  bool is_made;
+};
+
+/* ---- time and numbers of threads */
+
+/* Returns the time by the pool's clock, without the lock. */
+static struct moment time_of(const struct zuphinka_pool *pool) {
+  uint64_t passed = (uint64_t)(monotonic() - pool->opened);
+  if (!pool->host.now) return (struct moment){passed / (uint64_t)MILLISECOND, passed};
+  uint64_t now = pool->host.now(pool->host.context);
+  return (struct moment){now, now * (uint64_t)MILLISECOND};
+}
+
+/* Reads the clock without the lock, for a call that begins then. */
+static void read_clock(const struct zuphinka_pool *pool, struct run *run) {
+  run->at = time_of(pool);
+  run->start.at = run->event.at = run->at.milliseconds;
+  run->began = pool->host.now ? monotonic() : 0;
+}
+
+uint32_t zuphinka_pool_caller(void) {
+  static atomic_uint_least32_t numbered;
+  static _Thread_local uint64_t next; /* the number after that of the thread; 0: it has none yet */
+  if (next == 0) next = UINT64_C(1) + atomic_fetch_add_explicit(&numbered, 1, memory_order_relaxed);
+  return (uint32_t)(next - 1);
+}
+
+/* ---- the lock, and sleep */
+
+/* The lock is held for less than a microsecond. */
+static void lock(struct zuphinka_pool *pool) { take(&pool->lock, pool->processors > 1); }
+
+static void unlock(struct zuphinka_pool *pool) { pthread_mutex_unlock(&pool->lock); }
+
+static struct condition *condition_of(struct zuphinka_pool *pool, uint64_t ticket) { return &pool->conditions[ticket % CUT]; }
+
+/* Returns when the wait of a call ends at the latest, with the lock held: by its caller, or by the settings if the host's clock goes back or stands. */
+static int64_t latest_end(const struct zuphinka_pool *pool, const struct run *run) {
+  if (!run->began || !run->next.has_until || pool->longest_wait < 0) return run->limit;
+  return least(run->limit, run->began + in_nanoseconds((uint64_t)pool->longest_wait) + LAG * MILLISECOND);
+}
+
+/* Returns when the wait of a call ends, by the settings or by its caller. */
+static int64_t end_of_wait(const struct zuphinka_pool *pool, const struct run *run) {
+  int64_t latest = latest_end(pool, run);
+  if (!run->next.has_until) return latest;
+  return least(latest, after(run->next.until > run->event.at ? run->next.until - run->event.at : 0));
+}
+
+/* Returns what is true of a pool at one time, with the lock held. */
+static struct snapshot look(struct zuphinka_pool *pool) {
+  struct snapshot seen = {.measures = pool->measures, .is_low = zuphinka_is_low(&pool->core, pool->quarter)};
+  zuphinka_counts(&pool->core, &seen.counts);
+  zuphinka_state(&pool->core, &seen.state);
+  return seen;
+}
+
+/* Waits until a call is woken or its wait ends, with the lock held before and after. Returns the report. It pauses before it sleeps, since a short
+ * loan ends meanwhile; but not if the threads that have an object or are in a call need all processors: it would keep one of them from running. */
+static uint32_t wait_for_wake(struct zuphinka_pool *pool, const struct run *run) {
+  struct condition *condition = condition_of(pool, run->next.ticket);
+  bool is_at_end = run->next.has_until && run->next.until <= run->event.at; /* of the clock, since its time is not over */
+  int64_t now = monotonic(), latest = latest_end(pool, run);
+  int64_t end = is_at_end ? latest : end_of_wait(pool, run), end_of_pause = least(now + ALL_PAUSES, end);
+  if (latest <= now) return ZUPHINKA_REPORT_GIVEN_UP;
+  struct snapshot seen = look(pool);
+  if (seen.counts.lent + seen.state.running <= pool->processors) {
+    unlock(pool);
+    while (condition->wakes == run->wakes && pause_once(now, end_of_pause)) continue;
+    lock(pool);
+  }
+  while (condition->wakes == run->wakes && sleep_on(condition, &pool->lock, end)) continue;
+  return ZUPHINKA_REPORT_WOKEN;
+}
+
+#endif
