@@ -1330,6 +1330,22 @@ static void test_failing_store(void) {
   check_error(zuphinka_pool_end(pool), ZUPHINKA_POOL_ERROR_NONE);
 }
 
+/* The journal is stored at the end of a pool also if an object is lent, which keeps the pool. */
+static void test_in_use_at_the_end(void) {
+  for (int fails = 0; fails < 2; fails++) {
+    struct zuphinka_pool *pool = open_stored(&maker, "", NULL, ZUPHINKA_POOL_JOURNAL_SEGMENTS);
+    struct zuphinka_pool_loan loan = lend(pool);
+    uint64_t left = 0;
+    maker.sink.fails_at = fails ? -1 : 0;
+    check_error(zuphinka_pool_end(pool), ZUPHINKA_POOL_ERROR_IN_USE);
+    maker.sink.fails_at = 0;
+    check_error(zuphinka_pool_cut(pool, store_segment, &maker, &left), ZUPHINKA_POOL_ERROR_NONE);
+    check(left == (fails ? counts_of(pool).steps : 0));
+    give_back(pool, &loan);
+    end_pool(pool);
+  }
+}
+
 /* Returns whether a call had room; one that had none changed nothing. */
 static bool had_room(enum zuphinka_pool_error error) {
   check(error == ZUPHINKA_POOL_ERROR_NONE || error == ZUPHINKA_POOL_ERROR_JOURNAL_FULL || error == ZUPHINKA_POOL_ERROR_NOT_LENT);
@@ -1671,15 +1687,32 @@ static void test_woken_by_more_places(void) {
   }
 }
 
+/* Lends the object of a pool, and lets a thread wait for it by settings that then limit no wait any more. Returns whether they changed before the wait
+ * was over, after some milliseconds; otherwise nobody waits, and nothing is lent. */
+static bool change_in_time(struct zuphinka_pool *pool, int wait, struct zuphinka_pool_loan *loan, struct waiter *waiter) {
+  char settings[64];
+  snprintf(settings, sizeof settings, "maxTotal = 1\nmaxWaitMillis = %d\n", wait);
+  reconfigure(pool, settings, ZUPHINKA_POOL_ERROR_NONE);
+  *loan = lend(pool);
+  int64_t began = milliseconds_now();
+  start(waiter, 1, pool, wait_for_one);
+  reconfigure(pool, "maxTotal = 1\nmaxWaitMillis = -1\n", ZUPHINKA_POOL_ERROR_NONE);
+  if (milliseconds_now() - began < wait) return true;
+  give_back(pool, loan);
+  check(pthread_join(waiter->thread, NULL) == 0);
+  if (!waiter->error) check_error(zuphinka_pool_give_back(pool, &waiter->loan), ZUPHINKA_POOL_ERROR_NONE);
+  return false;
+}
+
 /* A wait ends by the settings that hold when it would end by those before. */
 static void test_waits_by_changed_settings(void) {
   maker.has_no_clock = true;
-  struct zuphinka_pool *pool = open_stored(&maker, "maxTotal = 1\nmaxWaitMillis = 50\n", NULL, ZUPHINKA_POOL_JOURNAL_OFF);
-  struct zuphinka_pool_loan loan = lend(pool);
+  struct zuphinka_pool *pool = open_stored(&maker, "maxTotal = 1\n", NULL, ZUPHINKA_POOL_JOURNAL_OFF);
+  struct zuphinka_pool_loan loan;
   struct waiter waiters[2];
-  start(waiters, 1, pool, wait_for_one);
-  reconfigure(pool, "maxTotal = 1\nmaxWaitMillis = -1\n", ZUPHINKA_POOL_ERROR_NONE);
-  sleep_for(150);
+  int wait = 50;
+  while (!change_in_time(pool, wait, &loan, waiters)) wait *= 2;
+  sleep_for(3 * wait);
   check(waiting_in(pool) == 1);
   start(waiters + 1, 1, pool, wait_for_one);
   reconfigure(pool, "maxTotal = 1\nmaxWaitMillis = 0\n", ZUPHINKA_POOL_ERROR_NONE);
@@ -3582,6 +3615,7 @@ static const struct {
     TEST(closed_with_a_full_journal),
     TEST(dropped_journal),
     TEST(failing_store),
+    TEST(in_use_at_the_end),
     TEST(lent_after_a_slow_store),
     TEST(small_journals),
     TEST(maintained_journal),
