@@ -357,8 +357,8 @@ const char *zuphinka_pool_error_text(enum zuphinka_pool_error error);
  * the pool. Objects that were reclaimed and not returned belong to their holders alone. Null: nothing to do. In a forked process it only frees the
  * memory of the copy, unless a thread of the parent was in a call when it forked: then it does nothing.
  *
- * Errors, and the pool is closed but not ended: ZUPHINKA_POOL_ERROR_IN_USE, if objects are lent; ZUPHINKA_POOL_ERROR_STORE_FAILED,
- * _OUT_OF_MEMORY, of the last segment.
+ * Errors, and the pool is closed but not ended: ZUPHINKA_POOL_ERROR_IN_USE, if objects are lent: the journal is passed on all the same, since they may
+ * never be returned. ZUPHINKA_POOL_ERROR_STORE_FAILED, _OUT_OF_MEMORY, of the last segment.
  */
 enum zuphinka_pool_error zuphinka_pool_end(struct zuphinka_pool *pool);
 

@@ -454,8 +454,8 @@ enum zuphinka_pool_error zuphinka_pool_end(struct zuphinka_pool *pool) {
   if (!is_copy) {
     if (!zuphinka_pool_is_closed(pool)) zuphinka_pool_close(pool);
     struct zuphinka_tally counts = snapshot_of(pool).counts;
-    if (counts.lent + counts.reserved > 0) return ZUPHINKA_POOL_ERROR_IN_USE;
     if (pool->journal == ZUPHINKA_POOL_JOURNAL_SEGMENTS) error = zuphinka_pool_cut(pool, pool->host.store, pool->host.context, NULL);
+    if (counts.lent + counts.reserved > 0) return ZUPHINKA_POOL_ERROR_IN_USE;
     if (error) return error;
     close_conditions(pool, CONDITIONS);
     pthread_mutex_destroy(&pool->lock);
