@@ -233,19 +233,21 @@ public final class Folders extends Expectations {
         remove(folder); // its journal has no beginning
     }
 
-    /** Settings that are removed after a change are put back as they were, and those of the change beside them: the journal stays legal. */
+    /** Settings that are removed after a change are put back as they were, and so are those of the change: the journal stays legal. */
     private static void removedAfterChange(Path parent) throws Exception {
         Noting pool = pool(parent).play(1);
-        Path file = pool.getJournalFolder().resolve(SETTINGS);
-        String first = pool.getSettingsText();
+        Path first = pool.getJournalFolder().resolve(SETTINGS);
+        Path changed = first.resolveSibling("settings-00000000000000000004.toml");
+        String before = pool.getSettingsText();
         pool.setMaxTotal(9);
         pool.play(1).flushJournal();
-        Files.delete(file);
-        pool.play(1).flushJournal();
-        expect("the settings that were removed", first, Files.readString(file));
-        expect("those of the change, at both segments", List.of(pool.getSettingsText(), pool.getSettingsText()),
-                List.of(Files.readString(file.resolveSibling("settings-00000000000000000004.toml")),
-                        Files.readString(file.resolveSibling("settings-00000000000000000008.toml"))));
+        for (List<Path> gone : List.of(List.of(first), List.of(changed), List.of(first, changed))) {
+            for (Path file : gone) {
+                Files.delete(file);
+            }
+            pool.play(1).flushJournal();
+            expect("both settings", List.of(before, pool.getSettingsText()), List.of(Files.readString(first), Files.readString(changed)));
+        }
         pool.close();
     }
 

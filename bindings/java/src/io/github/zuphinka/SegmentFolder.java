@@ -45,9 +45,11 @@ final class SegmentFolder implements SegmentSink {
     private GrowingFile callers;
     /** The lines for the callers' file that it does not have yet. */
     private String unnamed = "";
-    /** The settings of the first segment, and those that were stored last; null before. */
+    /** The settings of the first segment, and those of the last one; null before. */
     private String first;
     private String settings;
+    /** The file of the last settings. */
+    private String changed = SETTINGS;
     /** The file of the last segment, and how many entries it has; null if the next segment begins one. */
     private GrowingFile running;
     private long entries;
@@ -147,7 +149,7 @@ final class SegmentFolder implements SegmentSink {
     private boolean isAppended(Segment segment) throws IOException {
         boolean mayHave = running != null && running.size() < LONG_FILE && segment.settings().equals(settings)
                 && entries + segment.outstanding + MOST_ROOM * segment.entries() <= limit;
-        if (!mayHave || Files.notExists(folder.resolve(SETTINGS)) || !running.hasAppended(segment.lines)) {
+        if (!mayHave || isGone(SETTINGS) || isGone(changed) || !running.hasAppended(segment.lines)) {
             return false;
         }
         entries += segment.entries();
@@ -159,26 +161,27 @@ final class SegmentFolder implements SegmentSink {
         running = null;
         create(folder);
         first = first == null ? segment.settings() : first;
-        restore(START, start);
-        boolean isRestored = restore(SETTINGS, first);
         boolean isOther = settings != null && !segment.settings().equals(settings);
-        if (isOther || isRestored && !segment.settings().equals(first)) {
-            storeAs(named("settings-%020d.toml", segment), partsOf(segment.settings()));
-        }
+        changed = isOther ? named("settings-%020d.toml", segment) : changed;
         settings = segment.settings();
+        restore(START, start);
+        restore(SETTINGS, first);
+        restore(changed, settings);
         String name = named("segment-%020d", segment);
         storeAs(name, segment.parts());
         running = new GrowingFile(folder.resolve(name), segment.size());
         entries = segment.entries();
     }
 
-    /** Stores a file if it is not there, and returns whether it was not. */
-    private boolean restore(String name, String text) throws IOException {
-        boolean isGone = Files.notExists(folder.resolve(name));
-        if (isGone) {
+    private boolean isGone(String name) {
+        return Files.notExists(folder.resolve(name));
+    }
+
+    /** Stores a file if it is not there. */
+    private void restore(String name, String text) throws IOException {
+        if (isGone(name)) {
             storeAs(name, partsOf(text));
         }
-        return isGone;
     }
 
     /** Stores the names of callers that are not stored yet. */
