@@ -1,108 +1,77 @@
 import io.github.zuphinka.ZuphinkaPool;
 import java.time.Duration;
+import java.util.function.IntSupplier;
 import org.apache.commons.pool2.ObjectPool;
 import org.apache.commons.pool2.PooledObjectFactory;
+import org.apache.commons.pool2.UsageTracking;
 import org.apache.commons.pool2.impl.AbandonedConfig;
 import org.apache.commons.pool2.impl.GenericObjectPool;
 import org.apache.commons.pool2.impl.GenericObjectPoolConfig;
 
-/** A pool of one of the two libraries, with the calls that both have and their interface has not. */
-abstract class EitherPool<T> {
+/** A pool of one of the two libraries, with the calls that both have and their interfaces have not. */
+final class EitherPool<T> {
     final ObjectPool<T> calls;
+    private final UsageTracking<T> tracking;
+    private final Borrow<T> borrow;
+    private final Expectations.Act evict;
+    private final Expectations.Act prepare;
+    private final IntSupplier listed;
+    private final IntSupplier waiters;
 
-    private EitherPool(ObjectPool<T> calls) {
-        this.calls = calls;
+    private interface Borrow<T> {
+        T call(Duration longest) throws Exception;
     }
 
-    abstract T borrow(Duration longest) throws Exception;
+    private <P extends ObjectPool<T> & UsageTracking<T>> EitherPool(P pool, Borrow<T> borrow, Expectations.Act evict, Expectations.Act prepare,
+            IntSupplier listed, IntSupplier waiters) {
+        calls = pool;
+        tracking = pool;
+        this.borrow = borrow;
+        this.evict = evict;
+        this.prepare = prepare;
+        this.listed = listed;
+        this.waiters = waiters;
+    }
 
-    abstract void evict() throws Exception;
+    T borrow(Duration longest) throws Exception {
+        return borrow.call(longest);
+    }
 
-    abstract void prepare() throws Exception;
+    void evict() throws Exception {
+        evict.run();
+    }
 
-    abstract void use(T object);
+    void prepare() throws Exception {
+        prepare.run();
+    }
 
-    abstract int listed();
+    void use(T object) {
+        tracking.use(object);
+    }
 
-    abstract int waiters();
+    int listed() {
+        return listed.getAsInt();
+    }
+
+    int waiters() {
+        return waiters.getAsInt();
+    }
 
     /** Makes a pool of the library that is named: {@code zuphinka} or {@code commons-pool}. No object is abandoned if {@code abandoned} is null. */
     static <T> EitherPool<T> of(String library, PooledObjectFactory<T> factory, GenericObjectPoolConfig<T> config, AbandonedConfig abandoned) {
         switch (library) {
             case "zuphinka":
-                return of(new ZuphinkaPool<>(factory, config, abandoned));
+                ZuphinkaPool<T> own = new ZuphinkaPool<>(factory, config, abandoned);
+                return new EitherPool<>(own, own::borrowObject, own::evict, own::preparePool, () -> own.listAllObjects().size(), own::getNumWaiters);
             case "commons-pool":
-                return of(abandoned == null ? new GenericObjectPool<>(factory, config) : new GenericObjectPool<>(factory, config, abandoned));
+                GenericObjectPool<T> other = new GenericObjectPool<>(factory, config);
+                if (abandoned != null) {
+                    other.setAbandonedConfig(abandoned);
+                }
+                return new EitherPool<>(other, other::borrowObject, other::evict, other::preparePool, () -> other.listAllObjects().size(),
+                        other::getNumWaiters);
             default:
                 throw new IllegalArgumentException(library);
         }
-    }
-
-    private static <T> EitherPool<T> of(ZuphinkaPool<T> pool) {
-        return new EitherPool<>(pool) {
-            @Override
-            T borrow(Duration longest) throws Exception {
-                return pool.borrowObject(longest);
-            }
-
-            @Override
-            void evict() throws Exception {
-                pool.evict();
-            }
-
-            @Override
-            void prepare() throws Exception {
-                pool.preparePool();
-            }
-
-            @Override
-            void use(T object) {
-                pool.use(object);
-            }
-
-            @Override
-            int listed() {
-                return pool.listAllObjects().size();
-            }
-
-            @Override
-            int waiters() {
-                return pool.getNumWaiters();
-            }
-        };
-    }
-
-    private static <T> EitherPool<T> of(GenericObjectPool<T> pool) {
-        return new EitherPool<>(pool) {
-            @Override
-            T borrow(Duration longest) throws Exception {
-                return pool.borrowObject(longest);
-            }
-
-            @Override
-            void evict() throws Exception {
-                pool.evict();
-            }
-
-            @Override
-            void prepare() throws Exception {
-                pool.preparePool();
-            }
-
-            @Override
-            void use(T object) {
-                pool.use(object);
-            }
-
-            @Override
-            int listed() {
-                return pool.listAllObjects().size();
-            }
-
-            @Override
-            int waiters() {
-                return pool.getNumWaiters();
-            }
-        };
     }
 }
