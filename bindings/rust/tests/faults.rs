@@ -273,12 +273,12 @@ fn a_wake_is_not_lost_by_a_clock_that_panics<const HOOKS: bool>() {
     assert_legal(&pool);
 }
 
-fn a_closed_pool_with_a_full_journal_is_closed<const HOOKS: bool>() {
-    let limited = |builder: Builder<Troubled<HOOKS>>| {
-        let builder = builder.journal(Journal::Memory(Some(20)));
-        builder.max_total(3)
-    };
-    let (pool, _) = pool_with::<HOOKS>(limited);
+/// A closed pool whose journal is full.
+fn closed_and_full<const HOOKS: bool>(
+    change: impl FnOnce(Builder<Troubled<HOOKS>>) -> Builder<Troubled<HOOKS>>,
+) -> Pool<Troubled<HOOKS>> {
+    let limited = Journal::Memory(Some(20));
+    let (pool, _) = pool_with::<HOOKS>(|builder| change(builder.journal(limited)));
     fill(&pool, 1);
     pool.close();
     while pool.room() > 0 {
@@ -286,6 +286,12 @@ fn a_closed_pool_with_a_full_journal_is_closed<const HOOKS: bool>() {
     }
     assert!(matches!(pool.get(), Err(Error::Closed)));
     assert!(matches!(pool.try_get(), Err(Error::Closed)));
+    assert_legal(&pool);
+    pool
+}
+
+fn a_closed_pool_with_a_full_journal_is_closed<const HOOKS: bool>() {
+    let pool = closed_and_full::<HOOKS>(|builder| builder.max_total(3));
     assert!(matches!(pool.add(), Err(Error::Closed)));
     assert!(matches!(pool.evict(), Err(Error::Closed)));
     assert!(matches!(pool.maintain(), Err(Error::Closed)));
@@ -295,18 +301,7 @@ fn a_closed_pool_with_a_full_journal_is_closed<const HOOKS: bool>() {
 }
 
 fn a_closed_pool_with_a_full_journal_is_closed_though_borrows_reclaim<const HOOKS: bool>() {
-    let limited = |builder: Builder<Troubled<HOOKS>>| {
-        let builder = builder.journal(Journal::Memory(Some(20))).max_total(1);
-        builder.abandoned(ON_BORROW)
-    };
-    let (pool, _) = pool_with::<HOOKS>(limited);
-    fill(&pool, 1);
-    pool.close();
-    while pool.room() > 0 {
-        assert_eq!(pool.reclaim().unwrap(), 0);
-    }
-    assert!(matches!(pool.get(), Err(Error::Closed)));
-    assert!(matches!(pool.try_get(), Err(Error::Closed)));
+    let pool = closed_and_full::<HOOKS>(|builder| builder.max_total(1).abandoned(ON_BORROW));
     assert!(matches!(block_on(pool.get_async()), Err(Error::Closed)));
     assert!(matches!(pool.reclaim(), Err(Error::JournalFull)));
     assert_legal(&pool);
