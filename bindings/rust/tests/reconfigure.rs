@@ -255,14 +255,14 @@ fn objects_of_a_lifetime_are_validated_as_is_set_now<const HOOKS: bool>() {
 
 fn a_wait_that_is_over_goes_on_by_the_new_limit<const HOOKS: bool>() {
     let clock = Clock::default();
-    let builder = with("maxTotal = 1\nmaxWaitMillis = 10\n").clock(clock.told());
+    let builder = with("maxTotal = 1\nmaxWaitMillis = 10000\n").clock(clock.told());
     let pool = builder.build(Numbers::<HOOKS>).unwrap();
     let _held = pool.get().unwrap();
     let (mut get, bell) = (pool.get_async(), Bell::new());
     assert!(poll(&mut get, &bell).is_pending());
-    change(&pool, "maxTotal = 1\nmaxWaitMillis = 100\n");
-    assert_eq!(pool.max_wait(), Some(Duration::from_millis(100)));
-    for (time, is_over) in [(10, false), (99, false), (100, true)] {
+    change(&pool, "maxTotal = 1\nmaxWaitMillis = 100000\n");
+    assert_eq!(pool.max_wait(), Some(Duration::from_secs(100)));
+    for (time, is_over) in [(10_000, false), (99_999, false), (100_000, true)] {
         clock.set(time);
         match poll(&mut get, &bell) {
             Poll::Pending => assert!(!is_over),

@@ -307,15 +307,15 @@ fn settings_end_a_wait_at_the_first_poll_after_its_time() {
     let told = Arc::clone(&now);
     let builder = kept()
         .max_total(1)
-        .max_wait(Duration::from_millis(20))
+        .max_wait(LONGEST)
         .clock(move || told.load(Ordering::SeqCst));
     let pool = builder.build(Plain::<true>(Maker::default())).unwrap();
     let (held, bell) = (pool.get().unwrap(), Bell::new());
     now.store(5, Ordering::SeqCst);
     let mut get = waiting(&pool, &bell);
-    now.store(24, Ordering::SeqCst);
+    now.store(20_004, Ordering::SeqCst);
     assert!(poll(&mut get, &bell).is_pending());
-    now.store(25, Ordering::SeqCst);
+    now.store(20_005, Ordering::SeqCst);
     assert!(matches!(error(poll(&mut get, &bell)), Error::TimedOut(_)));
     assert_eq!(
         steps_of(&pool)[2..],
@@ -324,7 +324,7 @@ fn settings_end_a_wait_at_the_first_poll_after_its_time() {
     // One whose time is over takes what there is.
     let mut get = waiting(&pool, &bell);
     drop(held);
-    now.store(100, Ordering::SeqCst);
+    now.store(50_000, Ordering::SeqCst);
     assert_eq!(lent(&mut get, &bell).id, 0);
     assert_legal(&pool);
 }
@@ -333,16 +333,16 @@ fn settings_end_a_wait_at_the_first_poll_after_its_time() {
 fn a_clock_that_goes_back_ends_no_wait() {
     let clock = Clock::default();
     let builder = kept().max_total(1).clock(clock.told());
-    let builder = builder.max_wait(Duration::from_millis(20));
+    let builder = builder.max_wait(LONGEST);
     let pool = builder.build(Plain::<true>(Maker::default())).unwrap();
     let bell = Bell::new();
     clock.set(1_000);
     let held = pool.get().unwrap();
     clock.set(500);
     let mut get = waiting(&pool, &bell);
-    clock.set(1_019);
+    clock.set(20_999);
     assert!(poll(&mut get, &bell).is_pending());
-    clock.set(1_020);
+    clock.set(21_000);
     assert!(matches!(error(poll(&mut get, &bell)), Error::TimedOut(_)));
     assert_eq!(
         steps_of(&pool)[2..],
