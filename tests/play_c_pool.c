@@ -8,9 +8,9 @@
  *     play_c_pool metrics PAIRS THREADS                 the same, while the metrics are read
  *
  * `sink` and `random` write the journal's segments to files of the folder, each named for its first position, and the settings to the file
- * `settings`. Settings that change go to a file `settings-POSITION`, with that of the first entry which they hold for. They print `steps N`, how many entries there were; `sink` prints also how often `store` was called, and `random` a line `caller
- * NUMBER lent N` for each thread. In `soak` the memory of the process must not grow by more than a tenth, or SLACK bytes, after the first tenth of
- * the pairs. `metrics` prints the texts of the metrics, the last one after all pairs. Exits with status 0; or with status 4 and a line on standard
+ * `settings`. Settings that change go to a file `settings-POSITION`, with that of the first entry which they hold for. They print `steps N`, how many
+ * entries there were; `sink` prints also how often `store` was called, and `random` a line `caller NUMBER lent N` for each thread. In `soak` the memory
+ * of the process must not grow by more than a tenth, or SLACK bytes, after the first tenth of the pairs. `metrics` prints the texts of the metrics, the last one after all pairs. Exits with status 0; or with status 4 and a line on standard
  * error that says what is wrong. */
 #define _POSIX_C_SOURCE 200809L
 
@@ -1844,7 +1844,7 @@ static void test_woken_for_nothing(void) {
 
 /* A clock that goes back ends no wait: a borrow begins at the time of the last entry at least. */
 static void test_waits_by_a_clock_that_goes_back(void) {
-  struct zuphinka_pool *pool = open_kept("maxTotal = 1\nmaxWaitMillis = 1000\n", 1);
+  struct zuphinka_pool *pool = open_kept("maxTotal = 1\nmaxWaitMillis = 60000\n", 1);
   atomic_store(&maker.now, 5000);
   struct zuphinka_pool_loan loan = lend(pool);
   entries(pool);
