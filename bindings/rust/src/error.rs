@@ -19,10 +19,7 @@ pub enum Error<E> {
     TimedOut(Timeout),
     /// The pool is closed.
     Closed,
-    /// The journal has less [room](crate::Pool::room) than the call needs, until it is cut or its sink stores it, which failed. A borrow that makes an object needs room for 6
-    /// entries, and one that takes an idle object for 4; with [`Abandoned::on_borrow`](crate::Abandoned::on_borrow) each needs 1 more. An
-    /// addition or a fill needs 4 for each object that it makes, an eviction run 2 for each object that it tests. A step that changes no object,
-    /// as the note of a use, needs 1. The return, invalidation or detachment of a lent object and the first close of a pool need none.
+    /// The journal has less room than the call needs, as [`Pool::room`](crate::Pool::room) lists, until it is cut or its sink stores it, which failed.
     JournalFull,
     /// The journal has less room than the call needs while its sink stores a segment in another thread, and the call may not wait for that. The sink is
     /// slower than the pool, which has too little room for the time that it takes ([`Segments::limit`](crate::Segments::limit)).

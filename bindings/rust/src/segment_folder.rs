@@ -26,9 +26,9 @@ const MOST_BYTES: u64 = 16 << 20;
 /// `pool check FOLDER/settings.toml FOLDER/segment-*` checks the segments of a start, each with its settings (`docs/guide/audits.md`).
 ///
 /// A segment is appended to the last file, without its base, unless the settings changed, that file is not there any more, has 16 MiB, or
-/// would have more entries than `journalLimit` allows. So a week is hundreds of files. Each append is synced. After a crash of the machine the last
-/// file may end in the midst of a line, and a file `.unfinished` may be left, which nobody reads. All other files are whole: they are written under
-/// that name, synced, and renamed, and the folder is synced.
+/// would have more entries than `journalLimit` allows. So a week is hundreds of files. Each append is synced. After a kill, or a crash of the machine,
+/// the last file and `callers.txt` may end in the midst of a line, and a file `.unfinished` may be left, which nobody reads. All other files are whole:
+/// they are written under that name, synced, and renamed, and the folder is synced.
 ///
 /// Nothing is stored while another folder has the path, as where it was moved away. The start and the settings are stored again if they are gone.
 #[derive(Debug)]

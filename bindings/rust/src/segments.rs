@@ -151,7 +151,7 @@ impl Segments {
 
     /// Sets how often a thread of the journal's own stores the entries that came since, at least every millisecond; `None`: there is no such thread,
     /// and entries are stored when half of the limit is used up, and at the ends that [`Journal::Segments`](crate::Journal::Segments) names, but not
-    /// at the end of the program. The default is one second, so a program that is killed loses the last second.
+    /// at the end of the program. The default is one second, so a program that is killed loses the last second, and may leave a part of a line.
     ///
     /// A sink of yours gets as many segments: it may append their [lines](Segment::entry_lines) to one file, as [`SegmentFolder`] does.
     pub fn store_every(mut self, time: impl Into<Option<Duration>>) -> Segments {
