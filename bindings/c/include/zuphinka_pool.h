@@ -34,7 +34,8 @@
  *   room for six entries, one that takes an idle object for four. `zuphinka_pool_is_low` says when to call `zuphinka_pool_cut`;
  * - stored in segments (ZUPHINKA_POOL_JOURNAL_SEGMENTS): the pool cuts its journal in time and passes each segment to `store`. A borrow does this if
  *   less than a quarter of the room is left, and `zuphinka_pool_maintain` if less than half is left. A call that finds the journal full cuts it, and
- *   the segment is stored once the call is over, by the next borrow after one that lends.
+ *   the segment is stored once the call is over, by the next borrow after one that lends. Entries in memory are lost if the process is killed: to lose
+ *   few, call `zuphinka_pool_cut` with the same `store` now and then.
  * `pool check SETTINGS SEGMENT..` checks the segments of a pool, in their order, as the one journal that they are. Callers in the journal are
  * threads, numbered from 0 in the order of their first calls. Times never decrease.
  */
