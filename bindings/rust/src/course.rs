@@ -155,7 +155,7 @@ impl<M: Manager> Course<M> {
             token: self.token,
         };
         if !state.core.advance(event, &mut self.call) {
-            // Its waker panicked, and so it was given up.
+            // It was given up: its waker panicked, or its task was not polled for long.
             match report {
                 Report::GivenUp => self.call.cancel(),
                 _ => self.start(state),

@@ -381,6 +381,14 @@ fn a_use_puts_a_removal_off<const HOOKS: bool>() {
     assert_legal(&pool);
 }
 
+/// Sees that each of some new objects is gone.
+fn assert_none_left<const HOOKS: bool>(pool: &Pool<Maker<HOOKS>>, made: u64) {
+    let counts = pool.counts();
+    let (created, destroyed) = (counts.created, counts.destroyed);
+    assert_eq!((created, destroyed, counts.reserved), (made, made, 0));
+    assert_legal(pool);
+}
+
 fn a_new_object_that_fails_is_destroyed<const HOOKS: bool>() {
     let (pool, maker, _) = pool_with::<HOOKS>(|builder| all_tests(builder).max_total(1));
     maker.fail("make");
@@ -403,12 +411,7 @@ fn a_new_object_that_fails_is_destroyed<const HOOKS: bool>() {
     ];
     assert_eq!(maker.calls(), wanted);
     assert_eq!(maker.dropped(), [1, 3]);
-    let counts = pool.counts();
-    assert_eq!(
-        (counts.created, counts.destroyed, counts.reserved),
-        (4, 4, 0)
-    );
-    assert_legal(&pool);
+    assert_none_left(&pool, 4);
 }
 
 #[test]
@@ -433,12 +436,7 @@ fn a_new_object_whose_hook_fails_is_destroyed() {
     ];
     assert_eq!(maker.calls(), wanted);
     assert_eq!(maker.dropped(), [0, 1]);
-    let counts = pool.counts();
-    assert_eq!(
-        (counts.created, counts.destroyed, counts.reserved),
-        (2, 2, 0)
-    );
-    assert_legal(&pool);
+    assert_none_left(&pool, 2);
 }
 
 fn a_new_object_that_fails_its_second_test_is_destroyed<const HOOKS: bool>() {
