@@ -314,17 +314,37 @@ public final class Reconfigures extends Expectations {
         return wanted.equals(got) ? (Object) ((System.nanoTime() - begun) / 1_000_000) : got;
     }
 
+    /**
+     * Returns what a thread gets that waits for a lent object by some time, which changes, and is over before the object is returned. It waits again, for
+     * longer, if the time was over before it changed.
+     */
+    private static List<Object> gotAfterChange(ZuphinkaPool<Item> pool, Item lent, Duration then) throws Exception {
+        for (long wait = 1_000;; wait *= 2) {
+            long millis = wait;
+            long begun = System.nanoTime();
+            boolean[] isInTime = new boolean[1];
+            pool.setMaxWait(Duration.ofMillis(millis));
+            List<Object> got = whileWaiting(pool, 1, pool::borrowObject, () -> {
+                pool.setMaxWait(then);
+                isInTime[0] = System.nanoTime() - begun < millis * 1_000_000;
+                Thread.sleep(millis + 200);
+                pool.returnObject(lent);
+            });
+            if (isInTime[0]) {
+                return got;
+            }
+            if (!got.contains(lent)) {
+                pool.borrowObject();
+            }
+        }
+    }
+
     /** A wait is judged by the new time once the old one is over; a limit of its own stays. */
     private static void waits() throws Exception {
         ZuphinkaPool<Item> pool = pool(new Bare(), 1);
         Item lent = pool.borrowObject();
-        pool.setMaxWait(Duration.ofSeconds(1));
-        List<Object> got = whileWaiting(pool, 1, pool::borrowObject, () -> {
-            pool.setMaxWait(Duration.ofSeconds(30));
-            Thread.sleep(1_200);
-            pool.returnObject(lent);
-        });
-        expect("a wait that became longer", List.of(lent), got);
+        expect("a wait that became longer", List.of(lent), gotAfterChange(pool, lent, Duration.ofSeconds(30)));
+        expect("a wait that has no limit any more", List.of(lent), gotAfterChange(pool, lent, Duration.ofMillis(-1)));
         String over = "NoSuchElementException: Timeout waiting for idle object";
         List<Object> own = whileWaiting(pool, 1, () -> millisOf(() -> pool.borrowObject(Duration.ofMillis(300)), over),
                 () -> pool.setMaxWait(Duration.ofMillis(1)));
@@ -336,13 +356,6 @@ public final class Reconfigures extends Expectations {
             pool.returnObject(lent);
         });
         expect("a wait without a limit", List.of(lent), longer);
-        pool.setMaxWait(Duration.ofSeconds(1));
-        List<Object> endless = whileWaiting(pool, 1, pool::borrowObject, () -> {
-            pool.setMaxWait(Duration.ofMillis(-1));
-            Thread.sleep(1_200);
-            pool.returnObject(lent);
-        });
-        expect("a wait that has no limit any more", List.of(lent), endless);
         pool.close();
     }
 

@@ -725,6 +725,26 @@ public final class Waits extends Expectations {
         pool.close();
     }
 
+    /** A loan that there is no memory to note, where leaks are looked for, is a loan all the same. */
+    private static void leaksOnFullHeap() throws Exception {
+        ZuphinkaPool<Object> pool = pool(1, Journal.dropped());
+        pool.setLeakDetectionThreshold(Duration.ofHours(1));
+        Object made = pool.borrowObject();
+        pool.returnObject(made);
+        Object lent = null;
+        Queueing.fillHeap();
+        try {
+            lent = pool.borrowObject();
+        } catch (Exception | OutOfMemoryError e) {
+            // Nothing is lent.
+        }
+        Queueing.emptyHeap();
+        expect("a loan on a full heap", made, lent);
+        pool.returnObject(made);
+        expect("after it", "1 idle, 0 active, 1 created, 0 destroyed", counts(pool));
+        pool.close();
+    }
+
     /** An eviction run on a heap that is full since a policy was first asked costs no place. */
     private static void policyOnFullHeap(Plain factory) throws Exception {
         AtomicBoolean isToFill = new AtomicBoolean();
@@ -764,6 +784,7 @@ public final class Waits extends Expectations {
             threadsOnFullHeap(new Plain());
             threadsOnFullHeap(new Hooked());
             wrapperOnFullHeap();
+            leaksOnFullHeap();
             policyOnFullHeap(new Plain());
             policyOnFullHeap(new Hooked());
             printCounts();

@@ -22,8 +22,8 @@ use std::sync::{mpsc, Arc, Mutex};
 use std::task::Poll;
 use std::thread;
 use zuphinka::{
-    Builder, Error, Failure, Get, Journal, Manager, Pool, Pooled, ReconfigureError, Returned,
-    Segment, SegmentSink,
+    Builder, Error, Failure, Get, Journal, LeakDetection, Manager, Pool, Pooled, ReconfigureError,
+    Returned, Segment, SegmentSink,
 };
 
 with_and_without_hooks! {
@@ -36,6 +36,7 @@ with_and_without_hooks! {
     a_thread_that_cannot_wait_leaves_the_others_their_turns
     a_task_that_cannot_wait_for_a_segment_is_out_of_memory
     a_failure_that_cannot_be_reported_ends_no_call
+    a_loan_that_cannot_be_watched_is_lent
 }
 
 thread_local! {
@@ -379,4 +380,18 @@ fn a_failure_that_cannot_be_reported_ends_no_call<const HOOKS: bool>() {
         has_failed
     });
     assert!(failures > 0, "{failures} allocations failed");
+}
+
+fn a_loan_that_cannot_be_watched_is_lent<const HOOKS: bool>() {
+    let failures = each_in_turn(|left| {
+        let detection = LeakDetection::new(LONGEST, |_| {});
+        let builder = kept().leak_detection(detection);
+        let pool = builder.build(Numbers::<HOOKS>).unwrap();
+        pool.add().unwrap();
+        let (has_failed, lent) = failing(left, || pool.get().map(drop));
+        assert!(lent == Ok(()) || (has_failed && lent == Err(Error::OutOfMemory)));
+        assert_eq!(pairs(&pool, 3), 0);
+        has_failed
+    });
+    assert!(failures > 1, "{failures} allocations failed");
 }
