@@ -827,31 +827,63 @@ public final class Calls extends Expectations {
         }
     }
 
+    /** What shows something of objects that are abandoned after a time only if a call is quicker than that. */
+    private interface InTime {
+        /** Returns whether it was. */
+        boolean show(Duration timeout) throws Exception;
+    }
+
+    /** Shows it, with more time each time until it does. */
+    private static void inTime(InTime shown) throws Exception {
+        Duration timeout = Duration.ofSeconds(1);
+        while (!shown.show(timeout)) {
+            timeout = timeout.multipliedBy(2);
+        }
+    }
+
+    /** Makes a call, and returns whether it was quicker than a time. */
+    private static boolean isQuicker(Duration timeout, Act call) throws Exception {
+        long begun = System.nanoTime();
+        call.run();
+        return System.nanoTime() - begun < timeout.toNanos();
+    }
+
+    /** Lets a time pass, and a little more. */
+    private static void pass(Duration time) throws InterruptedException {
+        Thread.sleep(time.toMillis() + 50);
+    }
+
     /** A borrow lends no object that another one has taken from it while it destroyed abandoned ones. */
-    private static void slowDestruction() throws Exception {
+    private static boolean slowDestruction(Duration timeout) throws Exception {
         GenericObjectPoolConfig<Object> config = new GenericObjectPoolConfig<>();
         config.setJmxEnabled(false);
         config.setMaxTotal(3);
         AbandonedConfig abandoned = new AbandonedConfig();
         abandoned.setRemoveAbandonedOnBorrow(true);
-        abandoned.setRemoveAbandonedTimeout(Duration.ofSeconds(1));
+        abandoned.setRemoveAbandonedTimeout(timeout);
         SlowEnds factory = new SlowEnds();
         ZuphinkaPool<Object> pool = new ZuphinkaPool<>(factory, config, abandoned);
         List<Object> forgotten = List.of(pool.borrowObject(), pool.borrowObject());
         pool.addObject();
-        Thread.sleep(1_050);
+        pass(timeout);
         List<Object> others = new ArrayList<>();
+        long[] meanwhile = new long[1];
         factory.meanwhile = () -> {
-            Thread.sleep(1_050);
+            pass(timeout);
+            meanwhile[0] = System.nanoTime();
             others.add(within(begun(pool::borrowObject)));
         };
         Object lent = pool.borrowObject();
+        if (System.nanoTime() - meanwhile[0] >= timeout.toNanos()) {
+            return false;
+        }
         expect("the forgotten objects are destroyed", true, factory.destroyed.containsAll(forgotten));
         expect("a destroyed object is lent", false, factory.destroyed.contains(lent));
         expect("two are lent", "0 idle, 2 active, 5 created, 3 destroyed", counts(pool));
         pool.returnObject(lent);
         pool.returnObject(others.get(0));
         pool.close();
+        return true;
     }
 
     /** A lease whose object was reclaimed has the object still, and its end has no effect. */
@@ -1211,63 +1243,80 @@ public final class Calls extends Expectations {
         }, config, abandoned, Journal.kept());
     }
 
-    private static void trackedUse() throws Exception {
-        ZuphinkaPool<Tracked> pool = tracked(1, Duration.ofSeconds(1));
+    private static boolean trackedUse(Duration timeout) throws Exception {
+        ZuphinkaPool<Tracked> pool = tracked(1, timeout);
         Tracked tracked = pool.borrowObject();
-        Thread.sleep(1_050);
+        pass(timeout);
         tracked.used = Instant.now();
-        expect("an object that was used", "NoSuchElementException: Pool exhausted", result(pool::borrowObject));
-        Thread.sleep(1_050);
+        Object[] got = new Object[1];
+        if (!isQuicker(timeout, () -> got[0] = result(pool::borrowObject))) {
+            return false;
+        }
+        expect("an object that was used", "NoSuchElementException: Pool exhausted", got[0]);
+        pass(timeout);
         expect("it is abandoned later", false, pool.borrowObject() == tracked);
         pool.close();
         write(pool);
+        return true;
     }
 
+    private static final List<UnaryOperator<Instant>> CLOCKS =
+            List.of(now -> now.minusSeconds(3_600), now -> now.plusSeconds(3_600), now -> Instant.MIN);
+
     /** An answer that differs from the one before is a use, whatever the wall clock says meanwhile; and one that does not is none. */
-    private static void setClock() throws Exception {
-        List<UnaryOperator<Instant>> clocks = List.of(now -> now.minusSeconds(3_600), now -> now.plusSeconds(3_600), now -> Instant.MIN);
-        for (UnaryOperator<Instant> clock : clocks) {
-            ZuphinkaPool<Tracked> pool = tracked(1, Duration.ofSeconds(1));
-            Tracked tracked = pool.borrowObject();
-            Thread.sleep(1_050);
-            tracked.used = clock.apply(Instant.now());
-            pool.evict();
-            expect("an object that was used at " + tracked.used, "0 idle, 1 active, 1 created, 0 destroyed", counts(pool));
-            Thread.sleep(1_050);
-            pool.evict();
-            expect("it is abandoned later", "0 idle, 0 active, 1 created, 1 destroyed", counts(pool));
-            pool.close();
-            write(pool);
+    private static boolean setClock(UnaryOperator<Instant> clock, Duration timeout) throws Exception {
+        ZuphinkaPool<Tracked> pool = tracked(1, timeout);
+        Tracked tracked = pool.borrowObject();
+        pass(timeout);
+        tracked.used = clock.apply(Instant.now());
+        if (!isQuicker(timeout, pool::evict)) {
+            return false;
         }
+        expect("an object that was used at " + tracked.used, "0 idle, 1 active, 1 created, 0 destroyed", counts(pool));
+        pass(timeout);
+        pool.evict();
+        expect("it is abandoned later", "0 idle, 0 active, 1 created, 1 destroyed", counts(pool));
+        pool.close();
+        write(pool);
+        return true;
     }
 
     /** A use by the account of an object counts for no later loan. Nor is it asked for if the pool knows a later use. */
-    private static void earlierUse() throws Exception {
-        ZuphinkaPool<Tracked> pool = tracked(1, Duration.ofSeconds(1));
+    private static boolean earlierUse(Duration timeout) throws Exception {
+        ZuphinkaPool<Tracked> pool = tracked(1, timeout);
         Tracked tracked = pool.borrowObject();
         Thread.sleep(5);
         tracked.used = Instant.now();
-        Thread.sleep(1_050);
+        pass(timeout);
         tracked.act = () -> {
             pool.returnObject(tracked);
             pool.borrowObject();
         };
-        pool.evict();
+        if (!isQuicker(timeout, pool::evict)) {
+            return false;
+        }
         expect("an object that is lent again meanwhile", "0 idle, 1 active, 1 created, 0 destroyed", counts(pool));
-        Thread.sleep(1_050);
-        pool.use(tracked);
+        pass(timeout);
         int asked = tracked.asked;
-        pool.evict();
+        boolean isQuick = isQuicker(timeout.dividedBy(4), () -> {
+            pool.use(tracked);
+            tracked.asked = asked;
+            pool.evict();
+        });
+        if (!isQuick) {
+            return false;
+        }
         expect("one whose use was noted", "0 idle, 1 active, 1 created, 0 destroyed", counts(pool));
         expect("it is not asked", asked, tracked.asked);
         tracked.used = Instant.now();
         pool.returnObject(tracked);
         pool.borrowObject();
-        Thread.sleep(1_050);
+        pass(timeout);
         pool.evict();
         expect("one that was used in an earlier loan", "0 idle, 0 active, 1 created, 1 destroyed", counts(pool));
         pool.close();
         write(pool);
+        return true;
     }
 
     /** A borrow that reclaims nothing asks no lent object. */
@@ -1318,13 +1367,13 @@ public final class Calls extends Expectations {
         }
     }
 
-    /** Returns a pool of such objects, which are abandoned after a second. */
-    private static ZuphinkaPool<SlowTeller> slowTellers(List<SlowTeller> asked) {
+    /** Returns a pool of such objects, which are abandoned after a time. */
+    private static ZuphinkaPool<SlowTeller> slowTellers(List<SlowTeller> asked, Duration timeout) {
         GenericObjectPoolConfig<SlowTeller> config = new GenericObjectPoolConfig<>();
         config.setJmxEnabled(false);
         AbandonedConfig abandoned = new AbandonedConfig();
         abandoned.setRemoveAbandonedOnMaintenance(true);
-        abandoned.setRemoveAbandonedTimeout(Duration.ofSeconds(1));
+        abandoned.setRemoveAbandonedTimeout(timeout);
         return new ZuphinkaPool<>(new BasePooledObjectFactory<>() {
             @Override
             public SlowTeller create() {
@@ -1339,31 +1388,37 @@ public final class Calls extends Expectations {
     }
 
     /** The uses count that objects report, also if the last one asked takes its time: the others are not abandoned meanwhile. */
-    private static void slowReport() throws Exception {
+    private static boolean slowReport(Duration timeout) throws Exception {
+        long millis = timeout.toMillis();
         List<SlowTeller> asked = new ArrayList<>();
-        ZuphinkaPool<SlowTeller> pool = slowTellers(asked);
+        ZuphinkaPool<SlowTeller> pool = slowTellers(asked, timeout);
         List<SlowTeller> lent = new ArrayList<>();
         while (lent.size() < 8) {
             lent.add(pool.borrowObject());
         }
-        Thread.sleep(1_050);
+        pass(timeout);
         lent.forEach(teller -> teller.used = Instant.now());
         asked.clear();
-        pool.evict();
+        if (!isQuicker(timeout, pool::evict)) {
+            return false;
+        }
         expect("objects that are asked", 8, asked.size());
         SlowTeller last = asked.get(asked.size() - 1);
-        Thread.sleep(300);
+        Thread.sleep(millis * 3 / 10);
         lent.stream().filter(teller -> teller != last).forEach(pool::returnObject);
         while (pool.getNumIdle() > 0) {
             pool.borrowObject();
         }
-        Thread.sleep(750);
+        Thread.sleep(millis * 3 / 4);
         lent.forEach(teller -> teller.used = Instant.now());
-        last.millis = 400;
-        pool.evict();
+        last.millis = millis * 4 / 10;
+        if (!isQuicker(timeout, pool::evict)) {
+            return false;
+        }
         expect("all are used", "0 idle, 8 active, 8 created, 0 destroyed", counts(pool));
         pool.close();
         write(pool);
+        return true;
     }
 
     private static void countedByThreads(GenericObjectPoolConfig<Object> config) throws Exception {
@@ -1668,7 +1723,7 @@ public final class Calls extends Expectations {
         construction();
         constructionBesideCalls();
         abandonment();
-        slowDestruction();
+        inTime(Calls::slowDestruction);
         abandonedLease();
         uses();
         shortTimes();
@@ -1676,11 +1731,13 @@ public final class Calls extends Expectations {
         wrappers();
         states();
         statesOfNew();
-        trackedUse();
-        setClock();
-        earlierUse();
+        inTime(Calls::trackedUse);
+        for (UnaryOperator<Instant> clock : CLOCKS) {
+            inTime(timeout -> setClock(clock, timeout));
+        }
+        inTime(Calls::earlierUse);
         fewQuestions();
-        slowReport();
+        inTime(Calls::slowReport);
         refusals();
         closedAndFull();
         smallJournals();
