@@ -13,9 +13,9 @@ public interface SegmentSink {
      * waits, and a change of the settings holds before it does. This should not call the pool, which does not wait for it in the same thread.
      *
      * <p>If it throws anything, the segment counts as not stored. The same segment comes again, before any later one; so a segment may come twice if
-     * it was stored in spite of the failure. It comes again once half of the room that was left is used up, with {@link ZuphinkaPool#maintain} and
-     * {@link ZuphinkaPool#flushJournal}, and with each borrow once there is no room. Until it is stored no other segment is cut, and without room
-     * nothing is lent.
+     * it was stored in spite of the failure. It comes again when the thread of the pool stores next, once half of the room that was left is used up, with
+     * {@link ZuphinkaPool#maintain} and {@link ZuphinkaPool#flushJournal}, and with each borrow once there is no room. Until it is stored no other segment
+     * is cut, and without room nothing is lent.
      *
      * @param segment the next segment
      * @throws IOException if the segment is not stored
