@@ -2,7 +2,7 @@
 
 check_cases.py  The last line is 'N passed, M failed'.
 
-- Each file is made anew, and must be the same, and so must the example of tests/cases/README.md. No two cases differ only in their names.
+- Each file is made anew, and must be the same, and so must the example of CONTRIBUTING.md. No two cases differ only in their names.
 - A new case gets its answers; one of NOT_MADE is an error, which names its file and case.
 - Each edit of FAULTS breaks a file: the error must name the file. Unpacking it must end with that line and status 1.
 - Texts of all bytes must be the same if they are written and read again.
@@ -14,7 +14,7 @@ import sys
 
 from case_files import CASES, Case, CaseError, read_cases, read_file, written
 from make_cases import files_made, remade
-from playing import play_checks, run, scratch
+from playing import TOP, play_checks, run, scratch
 
 GOOD = """# A heading.
 
@@ -110,11 +110,11 @@ def made_of(path):
 
 
 def check_new(folder):
-    """The example of the README as it is made, a new case, and cases that are errors."""
-    path, page = folder / "new.toml", (CASES / "README.md").read_text()
+    """The example of CONTRIBUTING.md as it is made, a new case, and cases that are errors."""
+    path, page = folder / "new.toml", (TOP / "CONTRIBUTING.md").read_text()
     example = re.search(r"## Format\n\n((?:    .*\n|\n)+)", page)[1].rstrip("\n") + "\n"
     text = re.sub("^    ", "", example, flags=re.MULTILINE)
-    for name, text, made in [("the README's example", text, text), ("a new case", NEW, MADE)]:
+    for name, text, made in [("the page's example", text, text), ("a new case", NEW, MADE)]:
         path.write_text(text)
         yield name, made, outcome(made_of, path)
     for text, error in NOT_MADE:

@@ -17,7 +17,7 @@ with the lines that were written of the one before it.
 - New settings that leave no room for outstanding entries, or are none, have their lines; so have folders that lack something. In a folder with a folder
   for each start each is judged.
 - `JUDGE --held` must list the objects that are held at the end, by the names and with the times of day that the folder has.
-- The commands of docs/guide/audits.md that check segments and join them are run on these: they must find them legal where the verdict does.
+- The commands of docs/journal.md that check segments and join them are run on these: they must find them legal where the verdict does.
   The command for GNU parallel is run here for each segment, and so is the array job for each of its tasks.
 - Other arguments, requests for help or the version, and files that cannot be opened, read or taken, must have the line, which names the file,
   and the status that crates/judge/specs/Messages.antt says.
@@ -234,12 +234,12 @@ def answered(pool, requests):
 
 def shell_of_page():
     """The shell commands that the page shows for other programs: for GNU parallel, and for a cluster."""
-    return re.findall(r"^```sh\n(.*?)^```$", (TOP / "docs/guide/audits.md").read_text(), flags=re.MULTILINE | re.DOTALL)
+    return re.findall(r"^```sh\n(.*?)^```$", (TOP / "docs/journal.md").read_text(), flags=re.MULTILINE | re.DOTALL)
 
 
 def scripts_of_page():
     """The page's ways to check all segments, each with its join: by processes, by the command for GNU parallel, and by the array job; and that job."""
-    page = TOP / "docs/guide/audits.md"
+    page = TOP / "docs/journal.md"
     shown = [command for block in blocks(page) for command in commands(block)]
     made, processes, join = shown[shown.index("mkdir reached") :][:3]
     parallel, job = shell_of_page()

@@ -141,9 +141,10 @@ class Work:
             self.built[crate].set_result(True)
 
     async def build(self):
-        """Builds what is needed, one crate at a time."""
+        """Builds what is needed, one crate at a time; nothing after a gate that failed, since a build replaces the libraries that parts work with."""
         for crate in [crate for crate, built in self.built.items() if not built.done()]:
-            self.built[crate].set_result(is_ready(crate, self.gate) or await self.build_one(crate))
+            gate_failed = self.gate is not None and self.gate.failed
+            self.built[crate].set_result(is_ready(crate, self.gate) or not gate_failed and await self.build_one(crate))
 
     async def build_one(self, crate):
         """Builds a crate, and shows how far that is, by the lines that begin with its name; and once it has ended in vain, its other lines."""

@@ -3,7 +3,7 @@
 //! During the day one connection breaks, and one server forgets the connection that it borrowed. In the evening the
 //! keeper maintains the pool, which reclaims the forgotten one, and closes it. Then the program checks the journal.
 //!
-//! README.md, beside this folder, explains how to copy the crate under another name.
+//! docs/rattle.md explains how to copy the crate under another name.
 #![tactic(auto)]
 
 ghost use Rattle.std.specs.Prelude.{◌≡◌};

@@ -1,5 +1,5 @@
 //! Reads the settings from a file of limited length.
-ghost use Rattle.std.specs.Prelude.{◌≡◌, ℕ, ◌<◌, ◌≤◌, List, length, take, is_err, Err, IfOk, IfErr, IfSome};
+ghost use Rattle.std.specs.Prelude.{◌≡◌, ℕ, ◌+◌, ◌<◌, ◌≤◌, List, [], ◌++◌, length, is_err, vec_len, vec_capacity, Err, IfOk, IfErr, IfSome, OnOk};
 ghost use Rattle.std.specs.Io.KnownBytes.{Consumes, IsAtEnd, Keeps};
 ghost use Rattle.pool_settings.specs.Ranges.{IsInRange};
 ghost use Rattle.pool_engines.specs.SettingsFile.{TakesAtMost, IsAnswered, IsJudged, is_unread};
@@ -9,11 +9,14 @@ use crate::file_fault::FileFault;
 use crate::input_buffer::read_behind;
 use crate::source::Source;
 use pool_settings::Settings;
-use std::alloc::{AllocError, Global};
+use std::alloc::Global;
 use std::str;
 
 /// The most bytes that a settings file may have.
 const LIMIT: usize = 1_048_576;
+
+/// The most bytes that are read at once.
+const CHUNK: usize = 4_096;
 
 /// Reads the settings from a file, and at most 1,048,577 bytes of it.
 ///
@@ -31,42 +34,48 @@ pub fn read_settings<R: Source>(alloc: Global, reader: &mut R) -> Result<Setting
     ensures reported { IsReported (is_unread result) (R.may_have_failed reader.old)
         (R.may_have_failed reader.new) }
 {
-    let mut buffer = match buffer(alloc) {
-        Ok(buffer) => buffer,
+    let mut bytes = match Vec::with_capacity(alloc, LIMIT + 1) {
+        Ok(bytes) => bytes,
         Err(_) => return Err(FileFault::OutOfMemory),
     };
-    let count = fill(&mut buffer, reader)?;
-    judge(alloc, &buffer[..count])
+    fill(&mut bytes, reader)?;
+    judge(alloc, &bytes)
 }
 
-/// Returns a buffer with room for the longest settings file, and for one more byte.
-fn buffer(alloc: Global) -> Result<Vec<u8>, AllocError>
-    ensures { IfOk result (λ buffer. length buffer.items ≡ 1048577) }
-{
-    vec![in alloc; 0; LIMIT + 1]
-}
-
-/// Reads into the buffer until it is full or the reader is at its end, and returns how many bytes were read.
-fn fill<R: Source>(buffer: &mut [u8], reader: &mut R) -> Result<usize, FileFault>
-    ensures length { length buffer.new ≡ length buffer.old }
-    ensures ok { IfOk result (λ count. (count ≤ length buffer.new)
-        × Consumes (R.remaining reader.old) (R.remaining reader.new) (take count buffer.new)
-        × (count < length buffer.new → IsAtEnd (R.remaining reader.new))) }
+/// Appends what the reader has, up to one byte more than the longest settings file has. There is room for it.
+fn fill<R: Source>(bytes: &mut Vec<u8>, reader: &mut R) -> Result<(), FileFault>
+    requires empty { bytes.old.items ≡ [] }
+    requires room { 1048577 ≤ vec_capacity bytes.old }
+    ensures ok { OnOk result ((length bytes.new.items ≤ 1048577)
+        × Consumes (R.remaining reader.old) (R.remaining reader.new) bytes.new.items
+        × (length bytes.new.items < 1048577 → IsAtEnd (R.remaining reader.new))) }
     ensures error { IfErr result (λ fault. (fault ≡ FileFault.Read)
-        × TakesAtMost (length buffer.old) (R.remaining reader.old) (R.remaining reader.new)) }
+        × TakesAtMost 1048577 (R.remaining reader.old) (R.remaining reader.new)) }
     ensures reported { IsReported (is_err result) (R.may_have_failed reader.old)
         (R.may_have_failed reader.new) }
 {
-    let most = buffer.len();
-    let mut count = 0;
-    while count < most {
-        match read_behind(buffer, count, most, reader) {
-            Ok(0) => return Ok(count),
-            Ok(more) => count += more,
+    let mut chunk = [0; CHUNK];
+    while bytes.len() < LIMIT + 1 {
+        let most = CHUNK.min(LIMIT + 1 - bytes.len());
+        match read_behind(&mut chunk, 0, most, reader) {
+            Ok(0) => return Ok(()),
+            Ok(count) => append(bytes, &chunk[..count]),
             Err(_) => return Err(FileFault::Read),
         }
     }
-    Ok(count)
+    Ok(())
+}
+
+/// Appends bytes for which there is room.
+fn append(bytes: &mut Vec<u8>, more: &[u8])
+    requires { vec_len bytes.old + length more.now ≤ vec_capacity bytes.old }
+    ensures items { bytes.new.items ≡ bytes.old.items ++ more.now }
+    ensures room { vec_capacity bytes.old ≤ vec_capacity bytes.new }
+{
+    match bytes.extend_from_slice(more) {
+        Ok(()) => {}
+        Err(_) => unreachable!(),
+    }
 }
 
 /// Returns the settings in the bytes of a file, if these aren't too many.

@@ -12,18 +12,11 @@ mod engines;
 #[cfg(test)]
 mod full;
 #[cfg(test)]
-mod going_on;
-#[cfg(test)]
 mod journal;
-#[cfg(test)]
-mod lives;
-#[cfg(test)]
-mod openings;
 #[cfg(test)]
 mod places;
 #[cfg(test)]
 mod playing;
-#[cfg(test)]
 #[cfg(test)]
 mod settings;
 #[cfg(test)]

@@ -233,8 +233,8 @@ fn signals_are_no_fault_of_settings(rt: HostRuntime) {
     let asked = Asked {
         reads: 2,
         ends: 1,
-        least_room: 1_048_577 - 13,
-        most_room: 1_048_577,
+        least_room: 4_096,
+        most_room: 4_096,
     };
     is(&rt, reader.asked(), asked);
 }
