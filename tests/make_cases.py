@@ -1,10 +1,11 @@
 """Makes the expected output of the files of tests/cases anew, in the format that tests/cases/README.md explains, and cases from seeds.
 
-    make_cases.py
+    make_cases.py [--check]
 
 Settings, scripts and changes stay, and so do journals that no script makes. Answers, errors, verdicts and statistics are made anew, by
 tests/pool_model.py and tests/case_model.py. Segments that are legal together are made anew too: the journal of their script is cut at the same
-positions. Prints the name of each file that was changed.
+positions. Prints the name of each file that was changed. With --check none is changed: it prints the first line that would be in each, and in the end
+the line 'N passed, M failed'.
 
 Whatever plays all of tests/cases plays the cases of `seeded` too, which are made each time.
 
@@ -12,11 +13,13 @@ So if a rule has changed, change the model, run this, and read the difference.
 """
 
 import dataclasses
+import itertools
 import sys
 
-from case_files import CASES, TOP, Case, CaseError, files_of, lines_of, read_file, written
+from case_files import CASES, TOP, Case, files_of, lines_of, read_file, written
 from case_model import answer_to_settings, run, statistics_of
 from play_damaged import Chance, next_input
+from playing import play_checks
 from pool_model import INPUTS, WORDS, Pool, cut_at, settings_of, verdict_of_segments, words_of
 
 # Values of settings, besides the defaults.
@@ -165,7 +168,7 @@ def settings_in(case):
     """The settings of a case that the program takes."""
     answer = answer_to_settings(case.settings)
     if answer != b"ok\n":
-        raise CaseError(f"{case.place}: the program does not take the settings: {answer.decode().strip()}")
+        sys.exit(f"{case.name}: the program does not take the settings: {answer.decode().strip()}")
     return settings_of(case.settings.decode())
 
 
@@ -184,7 +187,7 @@ def cut_again(case):
         script = b"".join(line.partition(b" = ")[0] + b"\n" for line in lines_of(text) if b" = " in line)
         journal, error = run(pool, script, pool.position)
         if error:
-            raise CaseError(f"{case.place}: the script of the segments ends with '{error.decode().strip()}'; change its settings or segments")
+            sys.exit(f"{case.name}: the script of the segments ends with '{error.decode().strip()}'; change its settings or segments")
         segments.append((base + journal, b""))
     return dataclasses.replace(case, segments=segments)
 
@@ -211,16 +214,21 @@ def files_made():
         yield path, written(heading, map(remade, cases))
 
 
+def checks():
+    """Each file of cases, with the first line of it and of the file as it is made, if these differ."""
+    for path, made in files_made():
+        pairs = itertools.zip_longest(path.read_text().splitlines(), made.splitlines())
+        yield str(path.relative_to(CASES)), *next((pair[::-1] for pair in pairs if pair[0] != pair[1]), ("", ""))
+
+
 def main():
-    try:
-        made = list(files_made())
-    except CaseError as error:
-        sys.exit(f"make_cases.py: {error}")
-    for path, text in made:
+    if sys.argv[1:] == ["--check"]:
+        return play_checks(checks())
+    for path, text in list(files_made()):
         if path.read_text() != text:
             path.write_text(text)
             print(path.relative_to(TOP))
 
 
 if __name__ == "__main__":
-    main()
+    sys.exit(main())
