@@ -2,7 +2,7 @@
 
     check_rust.py POOL JUDGE
 
-POOL and JUDGE are the programs `pool` and `judge`, or both are tests/model_program.py. The crate's tests are cargo's: those in its files, in
+POOL and JUDGE are the programs `pool` and `judge`. The crate's tests are cargo's: those in its files, in
 tests/ and in its pages. The segments that the examples `first_loan` and `servers` store are judged by the program; what the example `settings` writes
 of a file must be what Python reads there; the example `pairs` must make as many entries as its rounds are, whatever becomes of its journal, and the
 segments that it stores are judged too; the segments of pools whose settings change, which a test stores, are legal with the settings that each has;
@@ -136,6 +136,8 @@ def check_pairs(pairs, pool):
 
 def check_metrics(file):
     """The metrics that a test has read while threads borrow."""
+    if not openmetrics.is_read("the metrics of the Rust crate"):
+        return
     texts = openmetrics.texts_of(file.read_text()) if file.exists() else []
     yield "the metrics", "", openmetrics.fault_of(openmetrics.check_course, texts, MEASURED)
     yield "there are texts of metrics", True, len(texts) > 2 or len(texts)

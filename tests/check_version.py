@@ -3,9 +3,8 @@ header, the C library, the programs, the man page and the change log.
 
     check_version.py [PROGRAM..]
 
-Each constant VERSION in the sources of a crate is what a program prints: its name, the version and a line feed. Of the PROGRAMs, paths of
-such programs, that is what `--version` prints. What the C library returns, and its contract, is the version as one number. Prints each that differs,
-and in the end the line 'N passed, M failed'.
+Each PROGRAM, a path, prints its name, the version and a line feed for `--version`. What the C library returns, and its contract, is the version as one
+number. Prints each that differs, and in the end the line 'N passed, M failed'.
 """
 
 import pathlib
@@ -15,11 +14,9 @@ import tomllib
 
 from playing import TOP, play_checks, run
 
-PROGRAMS = ["journal_picture", "judge", "pool"]
 HEADER = "bindings/c/include/zuphinka.h"
 # The contract and the body of the library's function, which has the number twice.
 NUMBER = r"fn zuphinka_version\(\) -> u32\n    ensures \{ result ≡ (\d+) \}\n\{\n    ([\d_]+)\n\}"
-PRINTED = re.compile(r'^pub(?:\(crate\))? const VERSION: &str = "(.*)\\n";$', re.MULTILINE)
 
 
 def found(pattern, name):
@@ -31,12 +28,6 @@ def number(version):
     """A version as one number, as zuphinka.h makes it of its three."""
     major, minor, patch = map(int, version.split("."))
     return major * 1_000_000 + minor * 1_000 + patch
-
-
-def printed():
-    """What the programs print by the sources, by the first word of it, their names."""
-    lines = (line for path in sorted(TOP.glob("crates/*/src/*.rt")) for line in PRINTED.findall(path.read_text()))
-    return {line.partition(" ")[0]: line for line in lines}
 
 
 def checks(version, programs):
@@ -54,12 +45,8 @@ def checks(version, programs):
     yield "the C library", [(number(version),) * 2], [tuple(map(int, numbers)) for numbers in found(NUMBER, "crates/zuphinka/src/lib.rt")]
     yield "the man page", [f"Zuphinka {version}"], found(r'^\.TH POOL 1 "" "(.*)"$', "docs/pool.1")
     yield "the change log", True, version in found(r"^## \[(.*?)\]", "CHANGELOG.md")
-    yield "the programs of the sources", PROGRAMS, sorted(printed())
-    for name, line in printed().items():
-        yield f"the source of {name}", f"{name} {version}", line
     for program in map(pathlib.Path, programs):
-        wanted = f"{program.name} {version}\n" if program.name in printed() else ""
-        yield f"{program} --version", wanted, run(program, "--version", text=True).stdout
+        yield f"{program} --version", f"{program.name} {version}\n", run(program, "--version", text=True).stdout
 
 
 if __name__ == "__main__":

@@ -166,6 +166,8 @@ def played(name, jar, classes, pool, place, **options):
 
 def measures(place):
     """What is wanted of the metrics, and what they are."""
+    if not openmetrics.is_read("the metrics in Java"):
+        return
     course = openmetrics.texts_of((place / "course").read_text())
     yield "measures: texts in their course", True, len(course) > 2 or len(course)
     yield "measures: their course", "", openmetrics.fault_of(openmetrics.check_course, course, MEASURED)

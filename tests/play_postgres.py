@@ -227,6 +227,8 @@ def served(port):
 
 def metrics(name, port):
     """What is wanted of the metrics that a program serves while transfers run, and what they are."""
+    if not openmetrics.is_read(f"the metrics of the example over PostgreSQL in {name}"):
+        return
     kind, text = served(port)
     yield f"{name}: the type of its metrics", "application/openmetrics-text; version=1.0.0; charset=utf-8", kind
     fault = openmetrics.fault_of(openmetrics.pools_of, text)
@@ -342,30 +344,11 @@ def attempt(example, seconds, server, pool, folder, after_failures):
         yield from journal(name, pool, place / "journal", told, log, used)
 
 
-def watching(server):
-    """That a connection with two users is noticed, as are processes and connections that are too many or missing."""
-    base = f"{ROLE}_watched"
-    server.ask(f"CREATE DATABASE {base} OWNER {ROLE}")
-    server.ask(WATCHED, base)
-    begin, once = server.log.stat().st_size, f"SET ROLE {ROLE}; BEGIN; INSERT INTO transfer VALUES (1, 0, 1, 1);"
-    yield "one user of a connection", ("", []), (server.answer(once + "COMMIT;", base), SHARED.findall(server.noted(begin)))
-    twice = server.answer(once + "INSERT INTO transfer VALUES (2, 0, 1, 1); COMMIT;", base)
-    yield "two users of a connection", (None, ["duplicate key value"]), (twice, SHARED.findall(server.noted(begin)))
-    server.ask(once + "BEGIN; COMMIT; COMMIT;", base)
-    yield "two users in turn", 3, len(SHARED.findall(server.noted(begin)))
-    authorized = "".join(f"{pid} LOG:  connection authorized: user={ROLE} database=x\n" for pid in (1, 2, 3))
-    log = authorized + "2 FATAL:  remaining connection slots are reserved for x\n3 FATAL:  terminating connection due to x\n"
-    yield "sessions of a log", ({"1"}, {"1", "3"}), sessions_of(log)
-    entries = "0 1 borrow 1 = make 0", "0 1 ready 0 makefail = freed", "0 2 add = make 1", "0 2 added 1 good = parked"
-    yield "counts of a journal", (2, 1, 1), counts_of(entries)
-
-
 def checks(library, pool):
     with tempfile.TemporaryDirectory(prefix="zuphinka-", ignore_cleanup_errors=True) as name:
         folder = pathlib.Path(name)
         examples = [in_rust(), in_c(library, folder), in_java(library, folder)]
         with Server(folder) as server:
-            yield from watching(server)
             for example in filter(None, examples):
                 yield from played(example, server, pool, folder)
 

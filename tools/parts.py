@@ -1,5 +1,5 @@
 """The parts of ./check, as it shows them. Those begin first that take longest. `./check --list` tells their names and what they test. Some are also
-parts of `./check quick`, and two of that alone. And the Debian packages that they need besides the Rattle kit, which `./check --install` installs."""
+parts of `./check quick`, and one of that alone. And the Debian packages that they need besides the Rattle kit, which `./check --install` installs."""
 
 import sources
 from packages import Package
@@ -49,7 +49,7 @@ PARTS = (
          "python3 tests/play_commands.py {pool} {journal_picture}", ("judge", "example_archive", "zuphinka"), folders=CARGO),
     Part("postgres", "the examples over PostgreSQL, in Rust, Java and C, while the server fails",
          "python3 tests/play_postgres.py {zuphinka} {pool}", folders=CARGO),
-    Part("c-pool", "the C pool for threads, also with failing allocations", "python3 tests/play_c_pool.py {zuphinka} {pool} {judge}"),
+    Part("c-pool", "the C pool for threads, also with failing allocations", "python3 tests/play_c_pool.py {zuphinka} {judge}"),
     Part("tools", "a use of ./check, ./try, tools/build.py and the benchmarks, and a wrong one",
          "python3 tests/play_tools.py {pool} {zuphinka}"),
     Part("soak", "ten seconds of bench/soak", "python3 bench/soak --seconds 10 --pool {pool}", ("zuphinka",), folders=CARGO),
@@ -66,7 +66,6 @@ PARTS = (
          "python3 tests/play_archive.py {example_archive} crates/example_archive/stdout {pool}"),
     Part("bank", "the example over SQLite, its accounts and its journal", "python3 tests/play_bank.py {example_bank} {pool} {journal_picture} 3"),
     Part("terminal", "progress and hints at a terminal", "python3 tests/play_terminal.py {pool}"),
-    Part("metrics", "the reader of the pools' metrics refuses what the OpenMetrics format forbids", "python3 tests/openmetrics.py"),
     Part("names", "what the pages name is there, and the code that they show is compiled code", "python3 tests/check_names.py"),
     Part("tables", "the tables of the pages agree with the sources, and that of phases with all journals of the cases", "python3 tests/check_tables.py"),
     Part("version", "all products have one version", "python3 tests/check_version.py {pool} {judge} {journal_picture}"),
@@ -82,14 +81,10 @@ PARTS = (
          "python3 tests/play_release.py .", ("pool", "judge", "journal_picture", "zuphinka")),
 )
 
-# The parts of `./check quick` alone: a whole check has others, which test the same and more.
-QUICK_ALONE = (
-    Part("unproved", "worked cases on the program without its proofs", "python3 tests/play_unproved.py tests/cases/worked"),
-    Part("rust-model", "the Rust crate, with a model of the pool in place of the program",
-         "python3 tests/check_rust.py tests/model_program.py tests/model_program.py", ("zuphinka",), folders=CARGO),
-)
-# All parts of `./check quick`, which needs no proof and takes less than five minutes.
-QUICK = ("unproved", "rust-model", "case-files", "metrics", "names", "tables")
+# The part of `./check quick` alone: a whole check has others, which test the same and more.
+UNPROVED = Part("unproved", "worked cases on the program without its proofs", "python3 tests/play_unproved.py tests/cases/worked")
+# All parts of `./check quick`, which proves nothing and takes less than five minutes.
+QUICK = (UNPROVED.name, "rust", "case-files", "names", "tables")
 
 JARS, CRATES = "/usr/share/java", "/usr/share/cargo/registry"
 PLUGINS = "/usr/share/maven-repo/org/apache/maven/plugins"
@@ -107,8 +102,9 @@ PACKAGES = (
     Package("make", "make", ("c-install", "commands")),
     Package("pkgconf", "pkg-config", ("c-install", "release")),
     # The cargo of Debian 12's package of that name is older than the Rust crate allows.
-    Package("cargo-web", "cargo", ("rust", "rust-model", "commands", "soak", "release", "postgres")),
-    Package("librust-tokio-dev", f"{CRATES}/tokio-[0-9]*", ("rust", "rust-model")),
+    Package("cargo-web", "cargo", ("rust", "commands", "soak", "release", "postgres")),
+    Package("python3-prometheus-client", "/usr/lib/python3/dist-packages/prometheus_client", ("rust", "java", "c-pool", "postgres")),
+    Package("librust-tokio-dev", f"{CRATES}/tokio-[0-9]*", ("rust",)),
     Package("default-jdk-headless", "javac", IN_JAVA, "JAVA_HOME"),
     Package("libcommons-pool2-java", f"{JARS}/commons-pool2.jar", IN_JAVA, "COMMONS_POOL2"),
     Package("libcommons-dbcp2-java", f"{JARS}/commons-dbcp2.jar", ("java", "drop-in", "maven", "release", "postgres")),
