@@ -52,7 +52,7 @@ PARTS = (
     Part("c-pool", "the C pool for threads, also with failing allocations", "python3 tests/play_c_pool.py {zuphinka} {judge}"),
     Part("tools", "a use of ./check, ./try, tools/build.py and the benchmarks, and a wrong one",
          "python3 tests/play_tools.py {pool} {zuphinka}"),
-    Part("soak", "ten seconds of bench/soak", "python3 bench/soak --seconds 10 --pool {pool}", ("zuphinka",), folders=CARGO),
+    Part("soak", "some seconds of bench/soak", "python3 bench/soak --pairs 2000000 --pool {pool}", ("zuphinka",), folders=CARGO),
     Part("calls", "calls of many callers, event by event at random, against a model of their rules", "python3 tests/play_calls.py {test_calls}"),
     Part("killed", "runs of the program that are killed", "python3 tests/play_killed.py {pool}"),
     Part("cases", "all cases of tests/cases on the program", "python3 tests/play_cases.py {pool} tests/cases"),
