@@ -14,16 +14,16 @@ run: check_names.py holds them against the sources, and looks at names. Cargo's 
 ignored by git: each file or folder has a line of its own in .gitignore.
 
 The examples that docs/guide/settings.md names are played, and must have the journal lines that it shows. The pictures in docs/pictures must be those of
-the journals: each under the name of its settings, the overview of the journal that tests/sample_journal.py writes, and that of leak.journal there.
+the journals: each under the name of its settings, and those of leak.journal and overview.journal there.
 """
 
 import functools
+import lzma
 import pathlib
 import re
 import sys
 
 from playing import NO_CARGO, TOP, has, play_checks, run, scratch, skip
-from sample_journal import Sample
 
 from contest import runs_cargo
 
@@ -156,8 +156,8 @@ def examples(pool, picture):
         yield f"the lines of {settings} on {script}", (True, []), (lines != [], [line for line in lines if line not in done.stdout.splitlines()])
         if (PICTURES / f"{name}.svg").exists():
             yield f"docs/pictures/{name}.svg is drawn of {settings}", True, is_drawn(picture, name, done.stdout)
-    yield "docs/pictures/overview.svg is drawn of tests/sample_journal.py", True, is_drawn(picture, "overview", Sample().play())
-    yield "docs/pictures/leak.svg is drawn of leak.journal", True, is_drawn(picture, "leak", (PICTURES / "leak.journal").read_bytes())
+    for name, journal in ("leak", (PICTURES / "leak.journal").read_bytes()), ("overview", lzma.decompress((PICTURES / "overview.journal.xz").read_bytes())):
+        yield f"docs/pictures/{name}.svg is drawn of its journal", True, is_drawn(picture, name, journal)
     files = {f"examples/{path.name}" for path in (TOP / "examples").iterdir() if path.name != "README.md"}
     yield "examples that docs/guide/settings.md doesn't name", set(), files - named
 

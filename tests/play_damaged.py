@@ -12,6 +12,7 @@ Prints each verdict that differs, and in the end the line 'N passed, M failed'.
 import concurrent.futures
 import functools
 import os
+import random
 import sys
 
 from case_files import wanted_of
@@ -35,59 +36,53 @@ removeAbandonedTimeoutMillis = 60
 """
 
 
-class Chance:
-    """Numbers that look like chance, and are the same in each run (splitmix64)."""
-
-    def __init__(self, seed):
-        self.state = seed
-
-    def below(self, limit):
-        self.state = (self.state + 0x9E3779B97F4A7C15) % 2**64
-        mixed = (self.state ^ self.state >> 30) * 0xBF58476D1CE4E5B9 % 2**64
-        mixed = (mixed ^ mixed >> 27) * 0x94D049BB133111EB % 2**64
-        return (mixed ^ mixed >> 31) % limit
-
-    def one_of(self, choices):
-        return choices[self.below(len(choices))]
-
-
 def next_input(pool, at, chance):
     """An input that has something to do, mostly: what goes on with an object, or one that begins something."""
     goes_on = {"readying": b"ready", "returning": b"park", "adding": b"added", "testing": b"tested"}
     ids = sorted(pool.objects)
-    if ids and chance.below(4):
-        id = chance.one_of(ids)
+    if ids and chance.randrange(4):
+        id = chance.choice(ids)
         phase = pool.phase(id)
         if phase in goes_on:
-            bad = chance.one_of([b"makefail", b"createfail", b"activatefail", b"testfail", b"passivatefail"])
-            return goes_on[phase], id, bad if chance.below(6) == 0 else b"good"
+            bad = chance.choice([b"makefail", b"createfail", b"activatefail", b"testfail", b"passivatefail"])
+            return goes_on[phase], id, bad if chance.randrange(6) == 0 else b"good"
         if phase == "destroying":
             return b"destroyed", id
         if phase == "lent":
-            return chance.one_of([b"return", b"return", b"use", b"invalidate"]), id
+            return chance.choice([b"return", b"return", b"use", b"invalidate"]), id
     begins = [b"borrow", b"borrow", b"add", b"fill", b"evict", b"evictnext", b"evictnext", b"reclaim", b"reclaimnext", b"clearnext"]
-    name = chance.one_of(begins)
-    given = {b"borrow": (at - chance.below(40),), b"reclaim": (chance.one_of([b"borrow", b"maintain"]),)}
+    name = chance.choice(begins)
+    given = {b"borrow": (at - chance.randrange(40),), b"reclaim": (chance.choice([b"borrow", b"maintain"]),)}
     return name, *given.get(name, ())
 
 
 def journal_by_chance(settings, length):
-    pool, chance, at, lines = Pool(settings), Chance(1), 1000, []
+    pool, chance, at, lines = Pool(settings), random.Random(1), 1000, []
     for position in range(length):
-        at += chance.below(12)
+        at += chance.randrange(12)
         asked = (b"close",) if position == length - 100 else next_input(pool, at, chance)
         answer = pool.reply(at, asked)
-        lines.append(b"%d %d %s = %s\n" % (chance.below(20), at, words_of(asked), words_of(answer)))
+        lines.append(b"%d %d %s = %s\n" % (chance.randrange(20), at, words_of(asked), words_of(answer)))
         pool.step(at, asked, answer)
     return b"".join(lines)
 
 
 def damaged(text, at, chance):
     """The text with the byte at this place changed, dropped and doubled."""
-    byte = bytes([chance.one_of(b"0123456789 =\nabcdefghijklmnopqrstuvwxyz\x00\x7f\xff")])
+    byte = bytes([chance.choice(b"0123456789 =\nabcdefghijklmnopqrstuvwxyz\x00\x7f\xff")])
     yield text[:at] + byte + text[at + 1 :]
     yield text[:at] + text[at + 1 :]
     yield text[: at + 1] + text[at:]
+
+
+def ways(segments, chance):
+    """The segments as they are, and with one lost, where others are left, repeated, or exchanged with the next."""
+    at = chance.randrange(len(segments))
+    yield "cut", segments
+    if len(segments) > 1:
+        yield "one lost", segments[:at] + segments[at + 1 :]
+    yield "one repeated", segments[: at + 1] + segments[at:]
+    yield "two exchanged", segments[:at] + segments[at : at + 2][::-1] + segments[at + 2 :]
 
 
 def damaged_in_way(journal, way, chance):
@@ -95,11 +90,11 @@ def damaged_in_way(journal, way, chance):
     lines, first, kind = journal.lines, way * 7919 % len(journal.lines), way % 5
     start, last = journal.starts[first], first
     if kind < 3:
-        at = start + chance.below(len(lines[first]))
+        at = start + chance.randrange(len(lines[first]))
         return [*damaged(journal.text, at, chance)][kind], first, first
     others = []
     if kind == 3:
-        last = min(len(lines) - 1, first + chance.one_of([1, 1, 2, 10, 100]))
+        last = min(len(lines) - 1, first + chance.choice([1, 1, 2, 10, 100]))
         others = [lines[last], *lines[first + 1 : last], lines[first]][: last - first + 1]
     end = start + sum(map(len, lines[first : last + 1]))
     return journal.text[:start] + b"".join(others) + journal.text[end:], first, last
@@ -113,7 +108,7 @@ def journal():
 
 def differences(pool, settings, way):
     """What differs where the journal is damaged in this way."""
-    text, first, last = damaged_in_way(journal(), way, Chance(way))
+    text, first, last = damaged_in_way(journal(), way, random.Random(way))
     done = run(pool, "check", settings, "/dev/stdin", input=text)
     return differing(f"way {way}", wanted_of(journal().verdict(text, first, last)), done)
 

@@ -31,7 +31,7 @@ PARTS = (
          "python3 tests/refuse_memory.py by-chance {test_stress} crates/test_stress/stdout 10"),
     Part("work", "reads, writes and allocations of the program and of a cut", "python3 tests/count_work.py {pool} {test_counts}"),
     Part("sizes", "journals and settings of all sizes, and many objects that are evicted and cleared", "python3 tests/play_sizes.py {pool}"),
-    Part("judge", "segments that are checked independently and joined", "python3 tests/play_judge.py {judge} {pool} tests/cases"),
+    Part("judge", "segments that are checked independently and joined", "python3 tests/play_judge.py {judge} tests/cases"),
     Part("rust", "the Rust crate: its tests, its examples, its binding", "python3 tests/check_rust.py {pool} {judge}", ("zuphinka",), folders=CARGO),
     Part("java",
          "the pool for Java: its calls, also with failing allocations, eight threads that call at random, its journals, examples and documentation",
