@@ -144,7 +144,7 @@ def any_settings(name, seed):
 
 
 # The cases from seeds: what makes a case, the first seed, and the number of cases, each with the next seed.
-SEEDED = {"lives": (life, 800, 280), "segments": (cut_life, 2_300, 120), "settings": (any_settings, 4_000, 150)}
+SEEDED = {"lives": (life, 1_600, 280), "segments": (cut_life, 2_300, 120), "settings": (any_settings, 4_000, 150)}
 
 
 def seeded():
