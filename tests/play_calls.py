@@ -1,37 +1,32 @@
 """Plays calls of all kinds at random on PROGRAM, event by event, and compares each answer with that of a model.
 
-    play_calls.py PROGRAM [--seeds N] [--seed SEED] [--commands N]
+    play_calls.py PROGRAM [--seed SEED]
 
 PROGRAM is test_calls. Each seed plays a pool with random settings: up to 16 callers make calls of all kinds, the factory fails at random, calls
 are given up at any point, waits end with their time, the journal is cut or has no room, hosts wake up for nothing, return what they do not hold, and
-report what does not fit. Some pools are closed. Each event is chosen by the answers so far. The answer to it must be that of the model in
-call_model.py: the action, what a call over several objects has come to, the calls to wake, and the counts.
+report what does not fit. Some pools are closed. Each event is chosen by the answers so far of the model in call_model.py, and the program must give
+the same: the action, what a call over several objects has come to, the calls to wake, and the counts.
 
-At the end all that is held is returned, only calls that were woken go on, and none may be left. The journal is that of the model, and legal by
-pool_model.py. All seeds together see each end of each kind of call.
+At the end all that is held is returned, only calls that were woken go on, and none may be left. All seeds together see each end of each kind of call.
 
 Prints what differs, and in the end the line 'N passed, M failed'. With --seed it plays that seed alone.
 """
 
 import argparse
 import concurrent.futures
-import contextlib
 import os
 import random
-import subprocess
 import sys
 
 from call_model import FITTING, Driven
-from playing import tell
-from pool_model import settings_of, verdict_of_segments
+from playing import differing, run, tell
+from pool_model import settings_of
 
-SLOTS = 16
-# For how long a seed may be played, in seconds.
-LONGEST = 120
+SLOTS, SEEDS = 16, 56
+# How many commands each seed has, at least.
+COMMANDS = 600
 # More objects than a call reclaims at a time.
 MANY = 100
-# How many commands before a difference are shown.
-SHOWN = 8
 # The settings that the model of the pool's answers does not know.
 OF_CALLS = {"journalLimit": 1_000_000, "testOnBorrow": False, "testOnCreate": False, "testOnReturn": False}
 HOOKS = ("activates", "validates", "passivates")
@@ -55,45 +50,6 @@ HANDED = ("return", "invalidate", "detach")
 # The calls that are made most. The others are given up, and fail in the factory, so many times as likely; and at most how likely.
 FREQUENT, RARE = ("borrow", "return"), 5
 MOST_LIKELY = 0.4
-
-
-class Difference(Exception):
-    """Something is not as it must be."""
-
-
-def expect(what, wanted, got):
-    if wanted != got:
-        raise Difference(f"{what}: wanted {wanted!r}, got {got!r}")
-
-
-class Program:
-    """The program, which answers each command before it gets the next."""
-
-    def __init__(self, path, lines):
-        streams = dict.fromkeys(("stdin", "stdout", "stderr"), subprocess.PIPE)
-        self.process = subprocess.Popen(["timeout", str(LONGEST), path], text=True, **streams)
-        self.process.stdin.write("".join(line + "\n" for line in lines))
-
-    def ask(self, command):
-        """The lines of the answer to a command, up to the one with the counts."""
-        lines = []
-        with contextlib.suppress(BrokenPipeError):
-            self.process.stdin.write(command + "\n")
-            self.process.stdin.flush()
-            for line in self.process.stdout:
-                lines.append(line.rstrip("\n"))
-                if line.startswith("counts "):
-                    return lines
-        raise Difference(f"the program has ended after {lines}, with {self.process.stderr.read()!r}")
-
-    def end(self):
-        """How the program ends with its input."""
-        out, err = self.process.communicate()
-        return out, err, self.process.returncode
-
-    def stop(self):
-        self.process.kill()
-        self.process.wait()
 
 
 def text_of(settings):
@@ -133,9 +89,9 @@ def random_settings(dice):
 
 
 class Player:
-    """Plays so many commands of one seed on a program, and then what is left."""
+    """Plays the commands of one seed on the model, and then what is left."""
 
-    def __init__(self, path, seed, commands):
+    def __init__(self, seed):
         self.dice = dice = random.Random(seed)
         settings = random_settings(dice)
         most = settings["maxTotal"]
@@ -145,14 +101,14 @@ class Player:
         overtakes, self.drops = dice.choice((0, 1, 1, 2, 5)), dice.random() < 0.25
         self.model = Driven(self.settings, hooks, overtakes, self.drops)
         flags = ["yes" if flag else "no" for flag in (*(hooks[key] for key in HOOKS), self.drops)]
-        self.first = [*lines, "", f"pool {overtakes} {' '.join(flags)}"]
-        self.program, self.most_commands = Program(path, self.first), commands
+        # The script, and the lines that it is answered.
+        self.commands, self.answers = [*lines, "", f"pool {overtakes} {' '.join(flags)}"], []
         # How likely a factory's call fails and a call is given up, and how many objects callers hold at most.
         self.failing = dice.choice((0.0, 0.05, 0.3))
         self.giving_up = dice.choice((0.0, 0.02, 0.1))
         self.most_held = 130 if most < 0 else 12
         # After how many commands the pool may be closed, and while which call works on an object: none if while one is idle.
-        self.open_for, self.closes_at = dice.uniform(0.3, 1.1) * commands, dice.choice(("add", "fill", "evict", "evict", "maintain", None))
+        self.open_for, self.closes_at = dice.uniform(0.3, 1.1) * COMMANDS, dice.choice(("add", "fill", "evict", "evict", "maintain", None))
         self.clock, self.next_token = dice.choice((0, 1_000)), 100
         # The last call of each slot, the slots of those that go on, and of those for what their hosts do not hold; the tickets that were woken; and the
         # objects that hosts hold, with their tokens.
@@ -162,17 +118,15 @@ class Player:
             *[self.borrow] * (120 if most < 0 else 40), *[self.return_or_end] * (6 if most < 0 else 18), *[self.go_on] * 80, *[self.maintain] * 16,
             *[self.touch] * 4, *[self.misreport] * 8, *[self.close] * 6, *[self.end_wrongly] * 3, self.cut,
         ]
-        self.commands, self.journal, self.seen = [], [], set()
+        self.seen = set()
 
     # What is sent.
 
-    def send(self, command, wanted):
-        """Sends a command, whose answer must be that of the model. Returns the answer."""
+    def send(self, command, answer):
+        """Adds a command with its answer to the script."""
         self.commands.append(command)
-        got = self.program.ask(command)
-        expect(command, wanted, got)
-        self.woken.update(int(line.split(" ")[1]) for line in got if line.startswith("wake "))
-        return got
+        self.answers += answer
+        self.woken.update(int(line.split(" ")[1]) for line in answer if line.startswith("wake "))
 
     def now(self):
         """The time of a caller: clocks differ by a little."""
@@ -218,9 +172,9 @@ class Player:
             self.note(slot)
 
     def cut(self):
-        """Shows the journal, and cuts it. Returns the answer to that."""
-        self.journal += self.send("journal", self.model.journal())[1:-1]
-        return self.send("cut", self.model.cut())
+        """Shows the journal, and cuts it."""
+        self.send("journal", self.model.journal())
+        self.send("cut", self.model.cut())
 
     def caller(self, slot):
         """The number of the caller of a slot."""
@@ -350,18 +304,17 @@ class Player:
             self.begin_any("close")
 
     def drain(self):
-        """Returns all that is held. Of the calls that sleep only those go on that were woken."""
-        tries = 0
-        while self.going or self.lent:
+        """Returns all that is held. Of the calls that sleep only those go on that were woken. Yields what is wrong."""
+        for _ in range(10_000):
             if slots := self.awake():
                 slot = self.dice.choice(slots)
                 self.report(slot, self.last_report_of(slot))
             elif self.lent:
                 self.return_or_end()
             else:
-                raise Difference(f"nothing is held, and calls sleep on: {[self.calls[slot].action for slot in self.going]}")
-            tries += 1
-            expect("all calls end", True, tries < 10_000)
+                break
+        if self.going or self.lent:
+            yield f"{self.lent} is held, and calls go on: {[self.calls[slot].action for slot in self.going]}"
 
     def last_report_of(self, slot):
         action = self.calls[slot].action[0]
@@ -372,48 +325,32 @@ class Player:
             return "room-made"
         return {"step": "go-on", "sleep": "woken", "make": "made"}.get(action, "succeeded")
 
-    def end(self):
-        counts = self.cut()[-1].split(" ")
-        expect("what is lent or reserved and who waits", ["0", "0", "0"], counts[2:])
-        if not self.drops:
-            expect("the journal", self.model.entries, self.journal)
-        text = "".join(line + "\n" for line in self.model.entries).encode()
-        # The journal that a pool stores has a limit, and all entries have none.
-        settings = self.settings | {"journalLimit": 2**32}
-        expect("the verdict", b"legal %d\n" % len(self.model.entries), verdict_of_segments(settings, [text]))
-        expect("the end", ("", "", 0), self.program.end())
-
     def play(self):
-        """Plays. Returns what differs."""
-        try:
-            while len(self.commands) < self.most_commands:
-                self.event()
-            self.drain()
-            self.end()
-            return []
-        except Difference as difference:
-            script = "\n".join(["", *self.first, "..", *self.commands[-SHOWN:]]).replace("\n", "\n    ")
-            return [f"after {len(self.commands)} commands: {difference}{script}"]
-        finally:
-            self.program.stop()
+        """Plays. Yields what is wrong."""
+        while len(self.commands) < COMMANDS:
+            self.event()
+        yield from self.drain()
+        self.cut()
+        if self.answers[-1].split(" ")[2:] != ["0", "0", "0"]:
+            yield f"something is lent or reserved, or waits: {self.answers[-1]}"
 
 
-def play_seed(seed, asked):
+def play_seed(seed, program):
     """Plays a seed. Returns what differs, the number of commands, and what was seen."""
-    player = Player(asked.program, seed, asked.commands)
-    return [f"seed {seed}: {difference}" for difference in player.play()], len(player.commands), player.seen
+    player = Player(seed)
+    wrong = [f"seed {seed}: {told}" for told in player.play()]
+    script, answers = ("".join(line + "\n" for line in lines).encode() for lines in (player.commands, player.answers))
+    return wrong + differing(f"seed {seed}", (answers, b"", 0), run(program, input=script)), len(player.commands), player.seen
 
 
 def main():
     words = argparse.ArgumentParser(prog="play_calls.py", description=__doc__, formatter_class=argparse.RawDescriptionHelpFormatter)
     words.add_argument("program", metavar="PROGRAM")
-    words.add_argument("--seeds", metavar="N", type=int, default=56, help="how many seeds are played")
     words.add_argument("--seed", metavar="SEED", type=int, help="play this seed alone")
-    words.add_argument("--commands", metavar="N", type=int, default=600, help="how many commands each seed has, at least")
     asked = words.parse_args()
-    seeds = range(1, asked.seeds + 1) if asked.seed is None else [asked.seed]
+    seeds = range(1, SEEDS + 1) if asked.seed is None else [asked.seed]
     with concurrent.futures.ProcessPoolExecutor(os.cpu_count()) as workers:
-        found, counts, seen = zip(*workers.map(play_seed, seeds, [asked] * len(seeds)))
+        found, counts, seen = zip(*workers.map(play_seed, seeds, [asked.program] * len(seeds)))
     print(f"{sum(counts)} commands")
     missing = WANTED.difference(*seen)
     return tell([*found, [f"never seen: {sorted(missing)}"] * bool(missing and asked.seed is None)])

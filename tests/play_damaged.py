@@ -1,10 +1,9 @@
-"""Damages a journal of 10,000 lines in each of 10,000 ways, and compares the program's verdict with that of tests/pool_model.py.
+"""Damages a journal in each of 4,000 ways, and compares the program's verdict with that of tests/pool_model.py.
 
-    play_damaged.py POOL [WAYS]
+    play_damaged.py POOL
 
 POOL is the program. In each way one byte is changed, dropped or doubled, two lines next to each other or further apart are
-exchanged, or a line is lost; the ways go over all lines and are the same in each run. With WAYS only so many are tried, spread
-over all.
+exchanged, or a line is lost; the ways go over all lines and are the same in each run. The journal is longer than the program's buffer.
 
 Prints each verdict that differs, and in the end the line 'N passed, M failed'.
 """
@@ -17,10 +16,9 @@ import sys
 
 from case_files import wanted_of
 from playing import differing, run, scratch, tell, write_files
-from pool_model import Journal, Pool, settings_of, words_of
+from pool_model import Pool, settings_of, verdict_of_segments, words_of
 
-LENGTH = 10_000
-WAYS = 10_000
+LENGTH, WAYS = 2_400, 4_000
 # All kinds of inputs have something to do: objects are evicted, tested, forgotten, and the pool closes near the end.
 SETTINGS = """maxTotal = 6
 maxIdle = 4
@@ -85,40 +83,35 @@ def ways(segments, chance):
     yield "two exchanged", segments[:at] + segments[at : at + 2][::-1] + segments[at + 2 :]
 
 
-def damaged_in_way(journal, way, chance):
-    """The text of the journal damaged in this way, and the first and the last line that may be others."""
-    lines, first, kind = journal.lines, way * 7919 % len(journal.lines), way % 5
-    start, last = journal.starts[first], first
+def damaged_in_way(text, way, chance):
+    """The text of a journal damaged in this way."""
+    lines = text.splitlines(keepends=True)
+    first, kind = way * 7919 % len(lines), way % 5
     if kind < 3:
-        at = start + chance.randrange(len(lines[first]))
-        return [*damaged(journal.text, at, chance)][kind], first, first
-    others = []
-    if kind == 3:
-        last = min(len(lines) - 1, first + chance.choice([1, 1, 2, 10, 100]))
-        others = [lines[last], *lines[first + 1 : last], lines[first]][: last - first + 1]
-    end = start + sum(map(len, lines[first : last + 1]))
-    return journal.text[:start] + b"".join(others) + journal.text[end:], first, last
+        at = sum(map(len, lines[:first])) + chance.randrange(len(lines[first]))
+        return [*damaged(text, at, chance)][kind]
+    last = min(len(lines) - 1, first + chance.choice([1, 1, 2, 10, 100])) if kind == 3 else first
+    others = [lines[last], *lines[first + 1 : last], lines[first]][: last - first + 1] if kind == 3 else []
+    return b"".join([*lines[:first], *others, *lines[last + 1 :]])
 
 
 @functools.cache
 def journal():
-    settings = settings_of(SETTINGS)
-    return Journal(settings, journal_by_chance(settings, LENGTH))
+    return journal_by_chance(settings_of(SETTINGS), LENGTH)
 
 
 def differences(pool, settings, way):
     """What differs where the journal is damaged in this way."""
-    text, first, last = damaged_in_way(journal(), way, random.Random(way))
+    text = damaged_in_way(journal(), way, random.Random(way))
     done = run(pool, "check", settings, "/dev/stdin", input=text)
-    return differing(f"way {way}", wanted_of(journal().verdict(text, first, last)), done)
+    return differing(f"way {way}", wanted_of(verdict_of_segments(settings_of(SETTINGS), [text])), done)
 
 
-def main(pool, ways=WAYS):
+def main(pool):
     with scratch() as room, concurrent.futures.ProcessPoolExecutor(os.cpu_count()) as workers:
         (settings,) = write_files(room, {"settings.toml": SETTINGS.encode()})
-        tried = range(0, WAYS, max(1, WAYS // int(ways)))
-        return tell(workers.map(functools.partial(differences, pool, settings), tried, chunksize=50))
+        return tell(workers.map(functools.partial(differences, pool, settings), range(WAYS), chunksize=50))
 
 
 if __name__ == "__main__":
-    sys.exit(main(*sys.argv[1:]))
+    sys.exit(main(sys.argv[1]))
