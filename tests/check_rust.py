@@ -7,8 +7,8 @@ tests/ and in its pages. The segments that the examples `first_loan` and `server
 of a file must be what Python reads there; the example `pairs` must make as many entries as its rounds are, whatever becomes of its journal, and the
 segments that it stores are judged too; the segments of pools whose settings change, which a test stores, are legal with the settings that each has;
 the metrics that a test writes must be in the format and agree with each other (tests/openmetrics.py); and the codes, the fields and the functions of
-`src/sys.rs` must be those of `bindings/c/include/zuphinka.h`. The tests under tokio run where Debian has its source; everywhere the files that they
-name must be there. What cannot be tested is skipped, with the reason: all of it if no cargo runs.
+`src/sys.rs` must be those of `bindings/c/include/zuphinka.h`. The tests under tokio run where Debian has its source. What cannot be tested is skipped,
+with the reason: all of it if no cargo runs.
 
 Prints what fails, and in the end the line 'N passed, M failed'.
 """
@@ -54,29 +54,12 @@ def tests(package, *options, **variables):
     yield from ((f"a test of cargo's in {package.name}", True, number < passed) for number in range(passed + failed))
 
 
-def check_trial():
-    """The files that the tests under tokio name are there. This is seen where they are skipped, too."""
-    files = re.findall(r'^#\[path = "(.*)"\]$', (TRIAL / "tokio_trial.rs").read_text(), flags=re.MULTILINE)
-    manifest = tomllib.loads((TRIAL / "Cargo.toml").read_text())
-    crates = [crate["path"] + "/Cargo.toml" for crate in manifest["dependencies"].values() if "path" in crate]
-    yield "tests/tokio_trial names files and crates", (True, True), (bool(files), bool(crates))
-    yield "files that tests/tokio_trial names and that are missing", [], [name for name in files + crates if not (TRIAL / name).is_file()]
-
-
 def check_stored(example, printed, pool):
     """What an example prints, and the journal that it stores, judged by the program."""
     with scratch() as folder:
         done = run(example, folder / "journal")
         yield example.name, (printed, 0), (done.stdout, done.returncode and done)
         yield f"the journal of {example.name}", *stored_journal(pool, folder / "journal")
-
-
-def check_examples():
-    """Each example is built: by the crate, or by the folder of its name, which has what it depends on."""
-    listed = {example["name"] for example in tomllib.loads((CRATE / "Cargo.toml").read_text())["example"]}
-    alone = {folder.parent.name for folder in (CRATE / "examples").glob("*/Cargo.toml")}
-    yield "the examples that are built", {file.stem for file in (CRATE / "examples").glob("*.rs")}, listed | alone
-    yield "examples that are built in two ways", set(), listed & alone
 
 
 def defaults():
@@ -194,7 +177,7 @@ def checks(pool, judge):
         yield from check_stored(examples / name, printed, pool)
     yield from check_settings(examples / "settings")
     yield from check_pairs(examples / "pairs", pool)
-    for check in check_examples, check_trial, check_binding, check_documentation, check_targets:
+    for check in check_binding, check_documentation, check_targets:
         yield from check()
 
 

@@ -6,12 +6,11 @@ Both are programs. The last line is 'N passed, M failed'.
 
 A block is what a page indents by four spaces, and the man page's section of examples. Each must be of commands, which are run one after the
 other with the repository's examples at hand, or as one where they have a loop; the lines of a journal, which must be legal with the default
-settings, cut into segments or not; the form of a line; or the line of `rt version` of a kit with the logic of this one, which may also be in a sentence.
+settings, cut into segments or not; the form of a line; or the line of `rt version` of a kit with the logic of this one.
 The command ./check is not run, since it runs this, nor is tools/build.py, also not by make, since it has built the programs: there must be such a
 crate or binding.
 Java's commands are run by play_java.py. What ./try does with the program without its proofs is done here by the program. Blocks between fences are not
-run: check_names.py holds them against the sources, and looks at names. Cargo's commands are skipped if no cargo runs. What the commands leave behind must be
-ignored by git: each file or folder has a line of its own in .gitignore.
+run: check_names.py holds them against the sources, and looks at names. Cargo's commands are skipped if no cargo runs.
 
 The examples that docs/guide/settings.md names are played, and must have the journal lines that it shows. The pictures in docs/pictures must be those of
 the journals: each under the name of its settings, and those of leak.journal and overview.journal there.
@@ -38,10 +37,6 @@ ENTRY = re.compile(r"\d+ \d+ .* = ")
 BASE = re.compile(r"pool-journal 2 |\d+ (readying|adding|lent|returning|idle|testing|destroying) ")
 FORM = "<caller> <at> <input>"
 KIT = re.compile(r"rattle-kit-\S+ logic ([0-9a-f]+)")
-# The checksum of its logic in a sentence.
-LOGIC_IN_PROSE = re.compile(r"`(logic [0-9a-f]+)`")
-# The names at the top that git ignores.
-IGNORED = {line.strip("/") for line in (TOP / ".gitignore").read_text().splitlines() if line.startswith("/")}
 
 
 def blocks(page):
@@ -106,15 +101,8 @@ class Place:
                 shown += block
             elif block != [FORM] and not (len(block) == 1 and is_kit(block[0])):
                 yield block[0], "neither a command nor a journal"
-        for logic in LOGIC_IN_PROSE.findall(page.read_text()):
-            yield logic, None if is_kit(f"rattle-kit-0 {logic}") else "another kit than this machine's"
-        yield "what git does not ignore", ", ".join(sorted(self.left() - IGNORED)) or None
         for segments in journals(shown):
             yield segments[0][0], self.fault_of_journal(segments)
-
-    def left(self):
-        """The names of what the commands left behind."""
-        return {path.name for path in self.folder.iterdir() if not path.is_symlink()}
 
 
 def journals(lines):
