@@ -11,15 +11,13 @@ crash, and it is restarted with a limit of two connections and without. Then
 - no more than four processes serve the example, except while a process ends whose connection was closed;
 - a transfer begins within a second after each failure is over;
 - the pool's metrics, which the example serves by HTTP, are in the OpenMetrics format while transfers run (tests/openmetrics.py), and tell of them;
-- nothing is lent at the end, and no process serves the example once it has closed its pool, before it ends;
+- nothing is lent at the end, each connection is closed, and no process of the server is left;
 - the journal is legal, has the counts that the example prints, and as many connections as the server has seen.
 
 What needs a package that is missing is skipped, with the reason. Prints what fails, and in the end the line 'N passed, M failed'.
 """
 
 import collections
-import fcntl
-import os
 import pathlib
 import re
 import signal
@@ -138,31 +136,25 @@ class Watch(threading.Thread):
 
 
 class Program:
-    """A program that runs. Its standard output is full, so that it cannot end before that is read."""
+    """A program that runs, whose output and errors go to files of a folder."""
 
     def __init__(self, command, folder):
-        reader, writer = os.pipe()
-        self.filling = fcntl.fcntl(writer, fcntl.F_SETPIPE_SZ, os.sysconf("SC_PAGESIZE"))
-        os.write(writer, b"." * self.filling)
-        self.errors = folder / "errors"
-        with open(self.errors, "wb") as errors:
-            options = {"stdin": subprocess.DEVNULL, "stdout": writer, "stderr": errors}
+        self.files = [folder / name for name in ("output", "errors")]
+        with open(self.files[0], "wb") as output, open(self.files[1], "wb") as errors:
+            options = {"stdin": subprocess.DEVNULL, "stdout": output, "stderr": errors}
             self.process = subprocess.Popen([*WITH_PARENT, "KILL", *map(str, command)], **options)
-        os.close(writer)
-        self.output = open(reader, "rb")
 
     def is_alive(self):
         return self.process.poll() is None
 
     def ended(self):
-        """Reads its output, and waits for its end. Returns its status and what it wrote."""
-        text = self.output.read()[self.filling :].decode()
-        return self.process.wait(SLACK), text
+        """Waits for its end. Returns its status, what it wrote, and its errors."""
+        status = self.process.wait(max(SECONDS) + SLACK)
+        return status, *(file.read_text(errors="replace") for file in self.files)
 
     def stop(self):
         self.process.kill()
         self.process.wait()
-        self.output.close()
 
 
 def begun(server, base):
@@ -189,7 +181,7 @@ def end_some(server):
 
 def pause(server):
     """Stops the server as in a crash, for a while."""
-    server.stop(signal.SIGQUIT)
+    server.stop("immediate")
     time.sleep(STOPPED)
     server.start()
 
@@ -255,14 +247,6 @@ def failures(name, server, base, program, port):
     yield f"{name}: it still runs", True, program.is_alive()
 
 
-def closing(name, server, program):
-    """Waits until no process serves the program, and yields whether it is still there then."""
-    until = time.monotonic() + max(SECONDS) + SLACK
-    while server.backends() and time.monotonic() < until and program.is_alive():
-        time.sleep(PAUSE)
-    yield f"{name}: no process after the close, before its end", (set(), True), (server.backends(), program.is_alive())
-
-
 def counts_of(lines):
     """How many objects a journal says were asked for, how many freed their places, and how many were made."""
     entries = [line.split()[2:] for line in lines if " = " in line]
@@ -294,10 +278,9 @@ def money(name, euros, server, base, told):
 
 def report(name, program):
     """Reads what the program prints. Returns its words by their names, and what is wanted of it, and what came of it."""
-    status, text = program.ended()
+    status, text, errors = program.ended()
     found = REPORT.fullmatch(text)
     print(f"{name}: {text.strip()!r}")
-    errors = program.errors.read_text(errors="replace")
     checks = [(f"{name}: its status and report", (0, True), (status, found is not None) if status == 0 and found else (status, text, errors[-1000:]))]
     if found:
         ended = found["created"] == found["destroyed"], found["idle"], found["lent"]
@@ -328,13 +311,13 @@ def attempt(example, seconds, server, pool, folder, after_failures):
     try:
         yield from failures(name, server, base, program, port)
         after_failures()
-        yield from closing(name, server, program)
         told, found = report(name, program)
     finally:
         watch.is_over.set()
         watch.join()
         program.stop()
     yield from found
+    yield f"{name}: processes of the server that are left", set(), server.backends()
     yield f"{name}: more than {CONNECTIONS} processes at a time", ([], True), (watch.excess, watch.looks >= LEAST_LOOKS)
     log = server.noted(begin)
     yield f"{name}: connections with two users", [], SHARED.findall(log)
