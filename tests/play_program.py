@@ -216,40 +216,16 @@ def short_runs():
 # A journal of five entries in two segments.
 FIRST_SEGMENT = b"0 0 borrow 0 = make 0\n0 0 ready 0 good = lent\n0 0 return 0 = check\n0 0 park 0 good = parked\n"
 SECOND_SEGMENT = b"pool-journal 2 4 1 open none 0 0 0 1\n0 idle 3 0 0 0 old\n0 0 borrow 0 = take 0\n"
-# What is answered to segments, one after the other.
-SEGMENTS = [
-    ([FIRST_SEGMENT], (b"legal 4\n", b"", 0)),
-    ([FIRST_SEGMENT, SECOND_SEGMENT], (b"legal 5\n", b"", 0)),
-    ([SECOND_SEGMENT], (b"illegal base 0\n", b"", 1)),
-    ([b"", FIRST_SEGMENT, SECOND_SEGMENT], (b"legal 5\n", b"", 0)),
-    ([b"pool-journal 2 0 0 open none 0 0 0 0\n" + FIRST_SEGMENT, SECOND_SEGMENT], (b"legal 5\n", b"", 0)),
-    ([FIRST_SEGMENT, SECOND_SEGMENT.replace(b"none", b"0")], (b"illegal base 1\n", b"", 1)),
-    ([FIRST_SEGMENT, SECOND_SEGMENT.replace(b"idle 3", b"idle 2")], (b"illegal base 1\n", b"", 1)),
-    ([FIRST_SEGMENT, SECOND_SEGMENT.replace(b"idle 3", b"idle 4")], (b"illegal base 1\n", b"", 1)),
-    ([FIRST_SEGMENT, SECOND_SEGMENT.replace(b"idle 3", b"idle 03")], (b"", b"pool: line 2: bad number\n", 3)),
-    ([FIRST_SEGMENT, SECOND_SEGMENT.replace(b"take 0", b"make 1")], (b"illegal 4 take 0\n", b"", 1)),
-    ([FIRST_SEGMENT, b""], (b"illegal base 1\n", b"", 1)),
-    ([FIRST_SEGMENT, FIRST_SEGMENT], (b"illegal base 1\n", b"", 1)),
-    ([FIRST_SEGMENT, SECOND_SEGMENT, SECOND_SEGMENT], (b"illegal base 2\n", b"", 1)),
-    ([b"pool-journal 2 4 1 open"], (b"", b"pool: line 1: truncated\n", 3)),
-    ([b"pool-journal 2 4 1 open\n"], (b"", b"pool: line 1: not a line\n", 3)),
-    ([b"pool-journal 3\n"], (b"", b"pool: line 1: not a line\n", 3)),
-    ([b"pool-journal 3 0 0 open none 0 0 0 0\n"], (b"", b"pool: line 1: not a line\n", 3)),
-    ([FIRST_SEGMENT, SECOND_SEGMENT + b"x\n"], (b"", b"pool: line 4: not a line\n", 3)),
-]
 
 
 def runs_of_segments(folder):
-    """A journal in several files is judged as one; of a file by itself the statistics are those of its entries."""
-    for number, (texts, wanted) in enumerate(SEGMENTS):
-        names = [path.name for path in write_files(folder, {f"segment{number}.{index}": text for index, text in enumerate(texts)})]
-        # A segment has the room of a journal, whatever was cut before it.
-        for settings in ["defaults.toml", "seven_entries.toml"]:
-            yield ["check", settings, *names], wanted
-        yield ["check", "--", "defaults.toml", *names], wanted
-        for at in range(len(names) + 1):
-            yield ["check", "defaults.toml", *names[:at], "--", *names[at:]], wanted
-    write_files(folder, {"second": SECOND_SEGMENT})
+    """A journal in several files is judged as one, and each segment has the room of a journal; of a file by itself the statistics are those of its
+    entries."""
+    write_files(folder, {"first": FIRST_SEGMENT, "second": SECOND_SEGMENT})
+    yield ["check", "seven_entries.toml", "first", "second"], told(b"legal 5\n")
+    yield ["check", "--", "defaults.toml", "empty", "first", "second"], told(b"legal 5\n")
+    yield ["check", "defaults.toml", "second"], (b"illegal base 0\n", b"", 1)
+    yield ["check", "defaults.toml", "first", "second", "empty"], (b"illegal base 2\n", b"", 1)
     yield ["stats", "second"], told(statistics(*[0] * 9))
     yield ["check", "defaults.toml", "second", "missing"], fault("cannot open missing")
 
