@@ -6,7 +6,7 @@ Both are programs. The last line is 'N passed, M failed'.
 
 A block is what a page indents by four spaces, and the man page's section of examples. Each must be of commands, which are run one after the
 other with the repository's examples at hand, or as one where they have a loop; the lines of a journal, which must be legal with the default
-settings, cut into segments or not; the form of a line; or the line of `rt version` of a kit with the logic of this one.
+settings, cut into segments or not; the form of a line; or the line of `rt version`. Each logic of a kit that a page names must be that of this one.
 The command ./check is not run, since it runs this, nor is tools/build.py, also not by make, since it has built the programs: there must be such a
 crate or binding.
 Java's commands are run by play_java.py. What ./try does with the program without its proofs is done here by the program. Blocks between fences are not
@@ -16,7 +16,6 @@ The examples that docs/guide/settings.md names are played, and must have the jou
 the journals: each under the name of its settings, and those of leak.journal and overview.journal there.
 """
 
-import functools
 import lzma
 import pathlib
 import re
@@ -24,6 +23,7 @@ import sys
 
 from playing import NO_CARGO, TOP, has, play_checks, run, scratch, skip
 
+import sources
 from contest import runs_cargo
 
 PICTURES = TOP / "docs/pictures"
@@ -36,7 +36,8 @@ COMMAND = re.compile(
 ENTRY = re.compile(r"\d+ \d+ .* = ")
 BASE = re.compile(r"pool-journal 2 |\d+ (readying|adding|lent|returning|idle|testing|destroying) ")
 FORM = "<caller> <at> <input>"
-KIT = re.compile(r"rattle-kit-\S+ logic ([0-9a-f]+)")
+# The line of a kit, which may have any name, and the checksum of its logic, also in a sentence.
+KIT, LOGIC = "rattle-kit-", re.compile(r"\blogic [0-9a-f]{8,}")
 
 
 def blocks(page):
@@ -99,8 +100,10 @@ class Place:
                 yield from ((line, self.fault_of_command(line)) for line in commands(block))
             elif all(ENTRY.match(line) or BASE.match(line) for line in block):
                 shown += block
-            elif block != [FORM] and not (len(block) == 1 and is_kit(block[0])):
+            elif block != [FORM] and not block[0].startswith(KIT):
                 yield block[0], "neither a command nor a journal"
+        for logic in LOGIC.findall(page.read_text()):
+            yield logic, None if (sources.kit() or "").endswith(logic) else "another kit than this machine's"
         for segments in journals(shown):
             yield segments[0][0], self.fault_of_journal(segments)
 
@@ -115,17 +118,6 @@ def journals(lines):
             found[-1].append([])
         found[-1][-1].append(line)
     return found
-
-
-def is_kit(line):
-    """Whether a line is that of `rt version` of a kit, of any name, whose logic has the checksum of this machine's."""
-    here, there = KIT.fullmatch(kit()), KIT.fullmatch(line)
-    return bool(here and there) and here[1] == there[1]
-
-
-@functools.cache
-def kit():
-    return run("rt", "version", text=True).stdout.strip()
 
 
 def is_drawn(picture, name, journal):

@@ -38,8 +38,8 @@ from contest import REGISTRY, built_by_cargo, runs_cargo
 from install import POOL, heap_of_kit
 
 CONNECTIONS = 4
-# For how long an example transfers, in seconds. Its failures take some eleven; if they take longer than the first, all is done again with the second.
-SECONDS = (25, 150)
+# For how long an example transfers, in seconds. Its failures take some eleven.
+SECONDS = 60
 # How long it may take to begin and to end, in seconds.
 SLACK = 120
 # How soon a transfer begins after a failure, in seconds, in one of how many tries.
@@ -149,7 +149,7 @@ class Program:
 
     def ended(self):
         """Waits for its end. Returns its status, what it wrote, and its errors."""
-        status = self.process.wait(max(SECONDS) + SLACK)
+        status = self.process.wait(SECONDS + SLACK)
         return status, *(file.read_text(errors="replace") for file in self.files)
 
     def stop(self):
@@ -289,28 +289,16 @@ def report(name, program):
 
 
 def played(example, server, pool, folder):
-    """Plays an example, once more for longer if the machine is too busy. Returns what is wanted of it, and what came of it."""
-    for seconds in SECONDS:
-        since, time_left = time.monotonic(), []
-        found = list(attempt(example, seconds, server, pool, folder, lambda: time_left.append(seconds - (time.monotonic() - since))))
-        if time_left[0] > 0:
-            break
-        print(f"{example.name}: its failures took longer than {seconds} s")
-    return found
-
-
-def attempt(example, seconds, server, pool, folder, after_failures):
-    """Plays an example for some seconds. Yields what is wanted of it, and what came of it."""
-    name, base, place = example.name, f"{ROLE}_{example.name}_{seconds}", folder / f"run-{example.name}-{seconds}"
+    """Plays an example. Yields what is wanted of it, and what came of it."""
+    name, base, place = example.name, f"{ROLE}_{example.name}", folder / f"run-{example.name}"
     place.mkdir()
     server.ask(f"CREATE DATABASE {base} OWNER {ROLE}")
     server.ask(WATCHED, base)
     begin, watch, port = server.log.stat().st_size, Watch(server), free_port()
-    program = Program(example.command(server.port, base, seconds, place / "journal", port), place)
+    program = Program(example.command(server.port, base, SECONDS, place / "journal", port), place)
     watch.start()
     try:
         yield from failures(name, server, base, program, port)
-        after_failures()
         told, found = report(name, program)
     finally:
         watch.is_over.set()

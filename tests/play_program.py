@@ -27,7 +27,7 @@ LITTLE_MEMORY = 1 << 30
 MOST_ROUNDS = 249_999
 MANY_WORKERS = [
     ("four_objects.toml", 4, 10, 4), ("small.toml", 3, 7, 1), ("defaults.toml", 100, 3, 8), ("defaults.toml", 8, 249_995 // 8, 8),
-    ("defaults.toml", 9, 199_996 // 9, 8),
+    ("defaults.toml", 9, 199_996 // 9, 8), ("defaults.toml", 1_023, 20, 8),
 ]
 PLAIN_LIFE = b"""0 10 borrow 10 = make 0
 0 11 ready 0 good = lent
@@ -46,7 +46,6 @@ FILES = {
     "illegal.journal": PLAIN_LIFE.replace(b"check", b"parked"), "long_line": b"a" * 300, "not_a_line": b"0 1 borrow\n",
     "bad_number": b"0 1 borrow 01\n", "truncated": b"0 1 borrow 1", "table_key.toml": b"[abandoned]\nnone = 1\n",
     "all_kinds.toml": b"lifo = true\nmaxIdle = 3\nminIdle = 1\n[abandoned]\nremoveAbandonedOnBorrow = true\n",
-    "segment-0": PLAIN_LIFE, "settings-0.toml": b"lifo = true\n",
 }
 TWO_BORROWS = b"0 0 borrow 0 = make 0\n1 5 borrow 5 = wait\n"
 # What the default settings answer: 8 objects, the last one parked first, an eviction of those idle for half an hour.
@@ -115,8 +114,6 @@ def good_runs():
     yield ["check", "defaults.toml", "plain.journal", "--"], told(b"legal 4\n")
     yield ["run", "/dev/stdin", "plain.script"], told(journal), {"input": b"maxTotal = 1\n"}
     yield ["check", "/dev/stdin", "plain.journal"], told(b"legal 4\n"), {"input": b"maxTotal = 1\n"}
-    # The settings are those of the command, whatever is beside a segment.
-    yield ["check", "two_entries.toml", "segment-0"], fault("line 1: journal full")
     yield ["run", "small.toml", "/dev/stdin"], told(journal), {"input": script}
     # The settings that the file says are those that hold.
     for settings in ["small.toml", "longest.toml"]:

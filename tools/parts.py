@@ -57,8 +57,6 @@ PARTS = (
     Part("killed", "runs of the program that are killed", "python3 tests/play_killed.py {pool}"),
     Part("cases", "all cases of tests/cases on the program", "python3 tests/play_cases.py {pool} tests/cases"),
     Part("case-files", "the files of tests/cases are as tests/make_cases.py makes them", "python3 tests/make_cases.py --check"),
-    Part("counts", "the counts of the core, and of pools that are cut after each entry, against those computed from the journal",
-         "python3 tests/play_counts.py {test_counts} tests/cases"),
     Part("program", "arguments, files, statuses and messages of the program", "python3 tests/play_program.py {pool}"),
     Part("lines", "lines of scripts, journals and bases that break the format", "python3 tests/play_lines.py {pool}"),
     Part("picture", "the pictures of journal_picture", "python3 tests/check_picture.py {journal_picture} tests/cases"),

@@ -128,9 +128,9 @@ def is_ready(crate, gate):
 
 def build(crate, gate, progress):
     """Builds a crate, unless it needs no build, and shows how far that is, by the lines that begin with its name; and once it has ended in vain, its
-    other lines. Returns whether it is built."""
-    if is_ready(crate, gate):
-        return True
+    other lines. Nothing is built after a gate that failed, since that replaces libraries that parts work with. Returns whether it is built."""
+    if is_ready(crate, gate) or gate is not None and gate.failed:
+        return is_ready(crate, gate)
     head = f"{crate}: "
     progress.say(f"build of {crate}")
     text, status, _ = run([sys.executable, "tools/build.py", crate], lambda line: line.startswith(head) and print(line, end=""))
