@@ -26,7 +26,6 @@ import collections
 import os
 import pathlib
 import re
-import subprocess
 import sys
 
 import openmetrics
@@ -56,10 +55,9 @@ def built(library, folder, *flags):
 
 def has_tsan(folder):
     """Returns whether the compiler builds programs with ThreadSanitizer that run."""
-    source, program = folder / "empty.c", folder / "empty"
-    source.write_text("int main(void) { return 0; }\n")
-    words = [compiler(), "-fsanitize=thread", "-pthread", "-o", program, source]
-    return subprocess.run(words, capture_output=True).returncode == 0 and subprocess.run([program], capture_output=True).returncode == 0
+    program = folder / "empty"
+    words = compiler(), "-fsanitize=thread", "-pthread", "-o", program, "-x", "c", "-"
+    return run(*words, input=b"int main(void) { return 0; }\n").returncode == 0 and run(program).returncode == 0
 
 
 class Runs:

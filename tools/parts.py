@@ -54,7 +54,6 @@ PARTS = (
          "python3 tests/play_tools.py {pool} {zuphinka}"),
     Part("soak", "some seconds of bench/soak", "python3 bench/soak --pairs 2000000 --pool {pool}", ("zuphinka",), folders=CARGO),
     Part("calls", "calls of many callers, event by event at random, against a model of their rules", "python3 tests/play_calls.py {test_calls}"),
-    Part("killed", "runs of the program that are killed", "python3 tests/play_killed.py {pool}"),
     Part("cases", "all cases of tests/cases on the program", "python3 tests/play_cases.py {pool} tests/cases"),
     Part("case-files", "the files of tests/cases are as tests/make_cases.py makes them", "python3 tests/make_cases.py --check"),
     Part("program", "arguments, files, statuses and messages of the program", "python3 tests/play_program.py {pool}"),
