@@ -14,7 +14,6 @@ and prints it, and opens a pool from it, which goes on as the model does. The al
 Prints each number that is out of its bounds, and in the end the line 'N passed, M failed'.
 """
 
-import dataclasses
 import pathlib
 import subprocess
 import sys
@@ -43,25 +42,12 @@ CALLS = {"step": OBJECTS, "cut": 2, "read": 17, "print": 20, "open": 25 + OBJECT
 KEPT = 500
 
 
-@dataclasses.dataclass
-class Script:
-    """A script with its journal; in the end so many objects are idle."""
-
-    name: str
-    entries: list
-    idle: int = 0
-
-    def bytes_of(self, command):
-        """The most bytes that a command holds on it: two buffers and the lists of objects, with room for twice as many, or the settings."""
-        return 2 * BUFFER if command == "stats" else max(OBJECT * 2 * self.idle + 2 * BUFFER, SETTINGS)
-
-
 def scripts():
+    """Scripts with their journals: their names, their entries, and how many objects are idle in the end."""
     life = ["0 10 borrow 10 = make 0", "0 11 ready 0 good = lent", "0 15 return 0 = check", "0 16 park 0 good = parked"]
-    yield Script("a short life", life, 1)
-    yield Script("1,200,000 uses", [f"7 {i} use {i} = refused notlent" for i in range(1_200_000)])
-    objects = [line for i in range(100_000) for line in (f"0 0 add = make {i}", f"0 1 added {i} good = parked")]
-    yield Script("100,000 objects", objects, 100_000)
+    yield "a short life", life, 1
+    yield "1,200,000 uses", [f"7 {i} use {i} = refused notlent" for i in range(1_200_000)], 0
+    yield "100,000 objects", [line for i in range(100_000) for line in (f"0 0 add = make {i}", f"0 1 added {i} good = parked")], 100_000
 
 
 class Counter:
@@ -88,14 +74,15 @@ class Counter:
             raise RuntimeError(f"{arguments[:4]}: status {done.returncode}, {done.stderr}")
         return self.counted()
 
-    def play(self, script, command):
-        journal = "".join(entry + "\n" for entry in script.entries)
-        text = "".join(entry.partition(" = ")[0] + "\n" for entry in script.entries) if command == "run" else journal
+    def play(self, command, name, entries, idle):
+        """Plays a script. At most two buffers and the lists of objects are held, with room for twice as many, or the settings."""
+        journal = "".join(entry + "\n" for entry in entries)
+        text = "".join(entry.partition(" = ")[0] + "\n" for entry in entries) if command == "run" else journal
         (self.folder / "text").write_text(text)
         counted = self.count([command, *(["settings.toml"] if command != "stats" else []), "text"])
-        name = f"{command} of {script.name}"
+        name, most = f"{command} of {name}", 2 * BUFFER if command == "stats" else max(OBJECT * 2 * idle + 2 * BUFFER, SETTINGS)
         self.expect(f"{name}: allocations", counted["allocations"], 1, MOST_ALLOCATIONS)
-        self.expect(f"{name}: bytes held", counted["most"], 1, script.bytes_of(command) * 5 // 4)
+        self.expect(f"{name}: bytes held", counted["most"], 1, most * 5 // 4)
         self.expect(f"{name}: files opened", counted["opened"], 2 - (command == "stats"), 2 - (command == "stats"))
         self.streams(name, command, counted, len(text), len(journal))
 
@@ -198,7 +185,7 @@ def main(pool, tally):
         counter = Counter(str(pathlib.Path(pool).resolve()), made)
         for script in scripts():
             for command in ("run", "check", "stats"):
-                counter.play(script, command)
+                counter.play(command, *script)
         play_endless(counter)
         play_side_by_side(counter)
         play_objects(counter, str(pathlib.Path(tally).resolve()))

@@ -1,8 +1,8 @@
 """Runs the example of an archive many times over, and judges the segments that it leaves.
 
-    play_archive.py ARCHIVE OUTPUT POOL [RUNS]
+    play_archive.py ARCHIVE OUTPUT POOL
 
-Each time ARCHIVE is given an empty folder, and must write the file OUTPUT. It must leave there archive.toml and files segment-POSITION, whose
+RUNS times ARCHIVE is given an empty folder, and must write the file OUTPUT. It must leave there archive.toml and files segment-POSITION, whose
 names stand in the journal's order: each position is the number of entries in the files before it, and each file has one at least, and no more
 than the pool has room for. In all of them each of the four workers must have borrowed and given back 500 times. `POOL check archive.toml
 segment-*` must find them legal. A second run over the same folder must end with status 1 and change nothing.
@@ -67,9 +67,9 @@ def checks_of_run(program, output, pool):
         yield "a second run", (1, True), (again.returncode, files == [(path.name, path.read_bytes()) for path in sorted(folder.glob("segment-*"))])
 
 
-def checks(program, output, pool, runs=RUNS):
+def checks(program, output, pool):
     wanted = pathlib.Path(output).read_bytes()
-    for at in range(int(runs)):
+    for at in range(RUNS):
         yield from ((f"run {at}: {name}", *found) for name, *found in checks_of_run(program, wanted, pool))
 
 
