@@ -139,6 +139,8 @@ def checks(library):
         prefix = folder / "a b"
         done = install(prefix, library)
         yield "an install", (0, b""), (done.returncode, done.stderr)
+        if done.returncode:
+            return
         yield "the files that it prints", sorted(files(prefix)), sorted(str(pathlib.Path(line).relative_to(prefix)) for line in done.stdout.decode().splitlines())
         yield from second(prefix, library)
         yield from shared_library(prefix / "lib")
