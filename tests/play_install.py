@@ -4,10 +4,10 @@
 
 LIBRARY is libzuphinka.a, as `rt lib` builds it. The shared library must export the functions that the C compiler finds in the headers, and no other
 name. Its own name and its links must be those of the version, it must need nothing but the system's C library, and Python must load it. The examples
-of bindings/c/examples that need no database, copied to a folder by themselves, must compile with the flags that pkg-config prints for the archive, for the shared library and for a
-static program, and run; only those of the shared library may need it. The prefix has a space. A second install, by a compiler's command with words
-after it, must replace each library, and all may read what it installs, whatever the umask. bindings/c/Makefile must install the same files, and compile
-the examples. If pkg-config or make isn't installed, what needs it is skipped, which is printed.
+of bindings/c/examples that need no database, copied to a folder by themselves, must compile with the flags that pkg-config prints for the archive,
+for the shared library and for a static program, and run; only those of the shared library may need it. The prefix has a space. A second install, by a
+compiler's command with words after it, must replace each library, and all may read what it installs, whatever the umask. bindings/c/Makefile must
+install the same files, and compile the examples. If pkg-config or make isn't installed, what needs it is skipped, which is printed.
 
 Prints each thing that differs, and in the end the line 'N passed, M failed'.
 """
@@ -141,7 +141,8 @@ def checks(library):
         yield "an install", (0, b""), (done.returncode, done.stderr)
         if done.returncode:
             return
-        yield "the files that it prints", sorted(files(prefix)), sorted(str(pathlib.Path(line).relative_to(prefix)) for line in done.stdout.decode().splitlines())
+        printed = (pathlib.Path(line).relative_to(prefix).as_posix() for line in done.stdout.decode().splitlines())
+        yield "the files that it prints", sorted(files(prefix)), sorted(printed)
         yield from second(prefix, library)
         yield from shared_library(prefix / "lib")
         if has("programs that are built by the installed files", "pkgconf"):
