@@ -1,4 +1,4 @@
-"""The rules of the program's arguments, read from docs/guide/program.md, and a comparison of the program with them over lists of words.
+"""The rules of the program's arguments, read from docs/journal.md, and a comparison of the program with them over lists of words.
 
 The program runs in a folder with one file, THERE, which is empty. As settings it gives the defaults, as a script or a journal it has no line.
 So an answer takes no time and is known from the words alone: this module never asks the program what is right.

@@ -1,4 +1,4 @@
-"""Reads and writes files of cases, in the format that tests/cases/README.md explains.
+"""Reads and writes files of cases, in the format that CONTRIBUTING.md explains.
 
     case_files.py CASES.. FOLDER
 

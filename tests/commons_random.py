@@ -5,7 +5,7 @@
 
 LIBRARY is libzuphinka.a. There are runs of ZuphinkaPool, and of the GenericObjectPool in place of the library's, each with the seeds from N on, from
 0 if none is given. Settings, their changes, calls and the failures of the factory are random. Each call must have the same outcome in both pools, or
-the one that the rule for a row of docs/guide/differences.md says: its result or exception, the calls of the factory in their order, the exceptions
+the one that the rule for a row of docs/migrate.md says: its result or exception, the calls of the factory in their order, the exceptions
 that are swallowed, and the numbers, properties and objects of the pool. The pools read a clock that the test sets: they are compiled from sources
 that read io.github.zuphinka.TestClock in place of System.nanoTime. The class in place of the library's has the name InPlacePool. If there is no JDK or no
 Commons Pool 2, all of it is skipped.
@@ -19,7 +19,7 @@ import pathlib
 import re
 import sys
 
-from check_names import tables
+from check_pages import tables
 from play_java import play_with_java, program, run_java
 from play_java_random import commons_pool_version
 from playing import TOP, scratch, side_by_side
@@ -27,7 +27,7 @@ from playing import TOP, scratch, side_by_side
 import java
 from install import heap_of_kit
 
-PAGE = TOP / "docs/guide/differences.md"
+PAGE = TOP / "docs/migrate.md"
 PROGRAM = TOP / "tests/commons_random"
 # How many runs there are if none is named; and how many calls that differ are shown.
 RUNS, SHOWN = 300, 3

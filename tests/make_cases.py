@@ -1,4 +1,4 @@
-"""Makes the expected output of the files of tests/cases anew, in the format that tests/cases/README.md explains, and cases from seeds.
+"""Makes the expected output of the files of tests/cases anew, in the format that CONTRIBUTING.md explains, and cases from seeds.
 
     make_cases.py [--check]
 

@@ -1,4 +1,4 @@
-"""Runs the commands that README.md, bindings/c/README.md, docs/ and the program's help show, judges the journals, and plays the examples of settings.
+"""Runs the commands that README.md, docs/ and the program's help show, judges the journals, and plays the examples of settings.
 
     play_commands.py POOL JOURNAL_PICTURE
 
@@ -10,9 +10,9 @@ settings, cut into segments or not; the form of a line; or the line of `rt versi
 The command ./check is not run, since it runs this, nor is tools/build.py, also not by make, since it has built the programs: there must be such a
 crate or binding.
 Java's commands are run by play_java.py. What ./try does with the program without its proofs is done here by the program. Blocks between fences are not
-run: check_names.py holds them against the sources, and looks at names. Cargo's commands are skipped if no cargo runs.
+run: check_pages.py holds them against the sources, and looks at names. Cargo's commands are skipped if no cargo runs.
 
-The examples that docs/guide/settings.md names are played, and must have the journal lines that it shows. The pictures in docs/pictures must be those of
+The examples that docs/settings.md names are played, and must have the journal lines that it shows. The pictures in docs/pictures must be those of
 the journals: each under the name of its settings, and those of leak.journal and overview.journal there.
 """
 
@@ -127,7 +127,7 @@ def is_drawn(picture, name, journal):
 
 def examples(pool, picture):
     named = set()
-    rows = re.findall(r"^\| (`examples/.*)$", (TOP / "docs/guide/settings.md").read_text(), flags=re.MULTILINE)
+    rows = re.findall(r"^\| (`examples/.*)$", (TOP / "docs/settings.md").read_text(), flags=re.MULTILINE)
     for settings, script, *others in (re.findall(r"`([^`]+)`", row) for row in rows):
         named |= {settings, script}
         name, lines = pathlib.Path(settings).stem, [words.encode() for words in others if " = " in words]
@@ -138,15 +138,15 @@ def examples(pool, picture):
             yield f"docs/pictures/{name}.svg is drawn of {settings}", True, is_drawn(picture, name, done.stdout)
     for name, journal in ("leak", (PICTURES / "leak.journal").read_bytes()), ("overview", lzma.decompress((PICTURES / "overview.journal.xz").read_bytes())):
         yield f"docs/pictures/{name}.svg is drawn of its journal", True, is_drawn(picture, name, journal)
-    files = {f"examples/{path.name}" for path in (TOP / "examples").iterdir() if path.name != "README.md"}
-    yield "examples that docs/guide/settings.md doesn't name", set(), files - named
+    files = {f"examples/{path.name}" for path in (TOP / "examples").iterdir()}
+    yield "examples that docs/settings.md doesn't name", set(), files - named
 
 
 def checks(pool, picture):
     yield from examples(pool, picture)
-    pages = [TOP / "README.md", *sorted((TOP / "docs").rglob("*.md")), TOP / "docs/pool.1"]
-    if has("the commands of bindings/c/README.md", "make"):
-        pages.append(TOP / "bindings/c/README.md")
+    pages = [TOP / "README.md", *sorted((TOP / "docs").glob("*.md")), TOP / "docs/pool.1"]
+    if not has("the commands of docs/c.md", "make"):
+        pages.remove(TOP / "docs/c.md")
     for page in pages:
         with scratch() as folder:
             for shown, fault in Place(folder, pathlib.Path(pool).resolve()).faults_of_page(page):

@@ -1,4 +1,4 @@
-"""Runs the tests of Commons Pool 2, unchanged, over the pool for Java, and compares which pass with docs/guide/differences.md.
+"""Runs the tests of Commons Pool 2, unchanged, over the pool for Java, and compares which pass with docs/migrate.md.
 
     play_commons_pool.py LIBRARY JUDGE
     play_commons_pool.py --fetch
@@ -29,7 +29,7 @@ import time
 import typing
 import urllib.request
 
-from check_names import backquoted, tables
+from check_pages import backquoted, tables
 from play_java import legal_in, play_with_java, run_java
 from play_java_random import commons_pool_version
 from playing import TOP, scratch, side_by_side
@@ -37,7 +37,7 @@ from playing import TOP, scratch, side_by_side
 import java
 from install import heap_of_kit
 
-PAGE = TOP / "docs/guide/differences.md"
+PAGE = TOP / "docs/migrate.md"
 OWN = TOP / "tests/commons_pool"
 # The version whose tests these are, and the archive from which Debian builds it.
 VERSION = "2.11.1"

@@ -22,7 +22,7 @@ from playing import run, scratch, side_by_side, tell, write_files
 
 MOST = 1_048_576
 LITTLE_MEMORY = 1 << 30
-# The most rounds that docs/guide/program.md says the default limit holds for one worker; and loads of several: settings, workers, rounds of each, and
+# The most rounds that docs/journal.md says the default limit holds for one worker; and loads of several: settings, workers, rounds of each, and
 # the most objects.
 MOST_ROUNDS = 249_999
 MANY_WORKERS = [

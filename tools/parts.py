@@ -63,8 +63,8 @@ PARTS = (
          "python3 tests/play_archive.py {example_archive} crates/example_archive/stdout {pool}"),
     Part("bank", "the example over SQLite, its accounts and its journal", "python3 tests/play_bank.py {example_bank} {pool} {journal_picture} 3"),
     Part("terminal", "progress and hints at a terminal", "python3 tests/play_terminal.py {pool}"),
-    Part("names", "what the pages name is there, and the code that they show is compiled code", "python3 tests/check_names.py"),
-    Part("tables", "the tables of the pages agree with the sources, and that of phases with all journals of the cases", "python3 tests/check_tables.py"),
+    Part("pages", "what the pages name is there, the code that they show is compiled code, and their tables and pictures agree with the sources",
+         "python3 tests/check_pages.py"),
     Part("version", "all products have one version", "python3 tests/check_version.py {pool} {judge} {journal_picture}"),
     Part("c-cases", "the cases on the C library", "python3 tests/play_library.py cases {zuphinka} tests/cases"),
     Part("c-segments", "the cases on the C library, with the journal cut", "python3 tests/play_library.py segments {zuphinka} {pool} tests/cases"),
@@ -81,7 +81,7 @@ PARTS = (
 # The part of `./check quick` alone: a whole check has others, which test the same and more.
 UNPROVED = Part("unproved", "worked cases on the program without its proofs", "python3 tests/play_unproved.py tests/cases/worked")
 # All parts of `./check quick`, which proves nothing and takes less than five minutes.
-QUICK = (UNPROVED.name, "rust", "case-files", "names", "tables")
+QUICK = (UNPROVED.name, "rust", "case-files", "pages")
 
 JARS, CRATES = "/usr/share/java", "/usr/share/cargo/registry"
 PLUGINS = "/usr/share/maven-repo/org/apache/maven/plugins"

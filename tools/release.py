@@ -92,7 +92,7 @@ def lay_out(stage, programs):
     crate = stage / "rust/zuphinka"
     places = {stage / "bin": [built(name, programs) for name in PROGRAMS], stage / "share/man/man1": [TOP / "docs/pool.1"]}
     places[stage / "examples"] = [TOP / "bindings/c/examples" / name for name in C_EXAMPLES]
-    places[stage / "examples"] += [TOP / "examples" / name for name in sources.of_commit(TOP / "examples") - {"README.md"}]
+    places[stage / "examples"] += [TOP / "examples" / name for name in sources.of_commit(TOP / "examples")]
     places[stage] = [TOP / "LICENSE", TOP / "CHANGELOG.md"]
     places[crate / "lib"] = [stage / "lib/libzuphinka.a"]
     for folder, files in places.items():
@@ -120,7 +120,7 @@ def lay_out_java(stage, programs):
 
 def describe(stage, has_java):
     """Writes the README."""
-    text = (TOP / "tools/release_readme.md").read_text().replace("VERSION", install.version(), 1)
+    text = (TOP / "tools/release_readme.txt").read_text().replace("VERSION", install.version(), 1)
     (stage / "README.md").write_text(text if has_java else text.partition(JAVA_SECTION)[0])
 
 

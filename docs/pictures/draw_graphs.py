@@ -1,5 +1,5 @@
 #!/usr/bin/env python3
-"""Draws docs/pictures/crates.svg from crates.txt, and docs/pictures/life.svg from the table of moves in docs/guide/concepts.md, by the command dot of
+"""Draws docs/pictures/crates.svg from crates.txt, and docs/pictures/life.svg from the table of moves in docs/concepts.md, by the command dot of
 Debian's package graphviz.
 
 In the graph of the crates an arrow leads from a crate to one that it depends on, unless a chain of other arrows leads there. The colour of a crate is
@@ -103,5 +103,5 @@ def life(text):
 
 
 if __name__ == "__main__":
-    for draw, source in (crates, "crates.txt"), (life, "docs/guide/concepts.md"):
+    for draw, source in (crates, "crates.txt"), (life, "docs/concepts.md"):
         (TOP / f"docs/pictures/{draw.__name__}.svg").write_text(draw((TOP / source).read_text()).drawn())

@@ -1,6 +1,6 @@
 import java.util.function.Predicate;
 
-/** The differences that calls of one thread meet, by their rows in docs/guide/differences.md. Their rules apply in this order. */
+/** The differences that calls of one thread meet, by their rows in docs/migrate.md. Their rules apply in this order. */
 enum Difference {
     NOT_PASSIVATED("Passivation fails in `add`", Rules::mendAdd),
     RETURN_THROWN("`destroy` and `validate` throw", Rules::mendReturn),

@@ -14,7 +14,7 @@
 enum {
   /* A round has four entries. Those that close the pool and destroy its objects are outstanding: room for them is set aside. */
   FEW = 16,
-  LONGEST_SETTINGS = 1 << 20, /* bytes, the most that docs/guide/settings.md allows */
+  LONGEST_SETTINGS = 1 << 20, /* bytes, the most that docs/settings.md allows */
 };
 
 struct object {

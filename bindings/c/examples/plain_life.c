@@ -11,7 +11,7 @@
 
 enum {
   CALLER = 0,
-  LONGEST_SETTINGS = 1 << 20, /* bytes, the most that docs/guide/settings.md allows */
+  LONGEST_SETTINGS = 1 << 20, /* bytes, the most that docs/settings.md allows */
 };
 
 struct connection {

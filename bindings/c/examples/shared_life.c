@@ -22,7 +22,7 @@ enum {
   MOST_THREADS = 64,
   PATIENCE = 5000,            /* milliseconds that a thread waits for a connection */
   PAUSE = 10,                 /* milliseconds between two calls of maintenance */
-  LONGEST_SETTINGS = 1 << 20, /* bytes, the most that docs/guide/settings.md allows */
+  LONGEST_SETTINGS = 1 << 20, /* bytes, the most that docs/settings.md allows */
 };
 
 /* ---- what the pool lends */

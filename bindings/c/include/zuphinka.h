@@ -7,8 +7,8 @@
  *
  * Each step appends one entry to the pool's journal. Its text is that of the program `pool`, and `pool check` checks it. The pool stores the
  * entries in memory, up to the setting journalLimit. A pool that runs longer writes its journal and cuts it in time (`zuphinka_is_low`,
- * `zuphinka_cut`). docs/guide/program.md lists the inputs with their answers, docs/guide/concepts.md the phases of an object, and
- * docs/guide/c.md explains both C libraries.
+ * `zuphinka_cut`). docs/journal.md lists the inputs with their answers, docs/concepts.md the phases of an object, and
+ * docs/c.md explains both C libraries.
  *
  * `python3 tools/build.py zuphinka` builds the library, and `python3 tools/install.py --prefix FOLDER` installs it, as an archive and as a shared
  * library, with files for pkg-config: zuphinka-static for the archive, and zuphinka for the shared library.
@@ -208,7 +208,7 @@ struct zuphinka_tally {
   uint64_t reclaimed; /* abandoned objects that lost their places */
 };
 
-/* Settings, as docs/guide/settings.md explains them. The key of field `max_total` is maxTotal, and so on. */
+/* Settings, as docs/settings.md explains them. The key of field `max_total` is maxTotal, and so on. */
 struct zuphinka_setup {
   uint64_t journal_limit;                  /* the most entries that the journal stores */
   int64_t max_wait_millis;                 /* milliseconds; negative: no limit */
@@ -378,7 +378,7 @@ _Static_assert(sizeof(struct zuphinka_event) == 24 && sizeof(struct zuphinka_eff
 uint32_t zuphinka_version(void);
 
 /*
- * Reads settings from a text: a TOML document of `length` bytes (docs/guide/settings.md). A text of no bytes has all defaults. It needs no pool. A
+ * Reads settings from a text: a TOML document of `length` bytes (docs/settings.md). A text of no bytes has all defaults. It needs no pool. A
  * host that steps a pool honours some of the settings itself: which objects are tested, and whether a borrow first reclaims.
  *
  * Returns ZUPHINKA_STATUS_DONE and stores the settings in `settings`. Errors leave `settings` unchanged:
@@ -393,7 +393,7 @@ uint32_t zuphinka_settings(const char *text, size_t length, struct zuphinka_setu
 
 /*
  * Opens a pool in an empty handle: without objects, with an empty journal, and with settings from a text, a TOML document of `length` bytes
- * (docs/guide/settings.md; of no bytes: all defaults). Sets aside the memory of the entry that closes the pool.
+ * (docs/settings.md; of no bytes: all defaults). Sets aside the memory of the entry that closes the pool.
  *
  * Returns ZUPHINKA_STATUS_DONE. Errors leave the handle unchanged: ZUPHINKA_STATUS_ALREADY_OPEN; ZUPHINKA_STATUS_NOT_TEXT,
  * ZUPHINKA_STATUS_NOT_TOML, ZUPHINKA_STATUS_UNKNOWN_KEY, ZUPHINKA_STATUS_WRONG_TYPE or ZUPHINKA_STATUS_OUT_OF_RANGE, the first error of the
@@ -472,7 +472,7 @@ uint32_t zuphinka_cut(struct zuphinka *pool);
  * over. Then the host calls `zuphinka_next_wake` until it returns ZUPHINKA_STATUS_NO_WAKE, since there may be more places.
  *
  * To keep the history, write a segment first, as for `zuphinka_cut`, and the new settings beside the next one. `judge SETTINGS SEGMENT` checks each
- * segment with its own settings, and docs/guide/audits.md has the join. `pool check` takes the same settings for all of its segments.
+ * segment with its own settings, and docs/journal.md has the join. `pool check` takes the same settings for all of its segments.
  *
  * Returns ZUPHINKA_STATUS_DONE. Errors change nothing: ZUPHINKA_STATUS_NOT_OPEN; ZUPHINKA_STATUS_NOT_TEXT, _NOT_TOML, _UNKNOWN_KEY, _WRONG_TYPE,
  * _OUT_OF_RANGE, of the settings; ZUPHINKA_STATUS_JOURNAL_FULL, if the new journalLimit has no room for the outstanding entries;

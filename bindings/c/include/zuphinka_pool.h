@@ -2,13 +2,13 @@
  * zuphinka_pool.h: a pool of objects for threads, over zuphinka.h.
  *
  * The host writes callbacks that make and destroy objects and, if it wishes, activate, test and passivate them. The pool lends the objects to
- * threads, with the settings of docs/guide/settings.md.
+ * threads, with the settings of docs/settings.md.
  *
  * The installed libraries have this pool. Otherwise compile bindings/c/src/zuphinka_pool.c with the program, with -std=c11 and -pthread. zuphinka.h
  * has the commands. bindings/c/examples/shared_life.c is a program to copy from.
  *
  * The library of zuphinka.h decides what a call does next, which threads wait, which one is woken, and when a journal is dropped:
- * docs/proof/proved.md says what of that is proved. The lock, the sleep of threads, the loans and the segments of the journal are not proved but
+ * docs/proved.md says what of that is proved. The lock, the sleep of threads, the loans and the segments of the journal are not proved but
  * tested, by tests/play_c_pool.py.
  *
  * Rules
@@ -180,7 +180,7 @@ struct zuphinka_pool_maintenance {
 };
 
 /*
- * Opens a pool with settings from a text, a TOML document of `length` bytes (docs/guide/settings.md; of no bytes: all defaults), and stores it in
+ * Opens a pool with settings from a text, a TOML document of `length` bytes (docs/settings.md; of no bytes: all defaults), and stores it in
  * `pool`. It copies `host`, and makes no object yet.
  *
  * Errors, and `pool` is unchanged: ZUPHINKA_POOL_ERROR_NULL_POINTER, also for settings of no bytes; _UNKNOWN_SIZE, _UNKNOWN_JOURNAL,
@@ -337,7 +337,7 @@ enum zuphinka_pool_error zuphinka_pool_cut(struct zuphinka_pool *pool, zuphinka_
  * Stores in `first`, unless it is null, the position of the first entry with these settings. What the journal stored before is cut off, as one segment
  * with the old settings. It goes to `store`, as by `zuphinka_pool_cut`; if `store` is null, to that of the host, for ZUPHINKA_POOL_JOURNAL_SEGMENTS.
  * A segment that can't be stored then is kept for the next cut. A journal that is dropped needs no `store`. `judge SETTINGS SEGMENT` checks each segment
- * with the settings that it had: keep these beside the first one (docs/guide/audits.md).
+ * with the settings that it had: keep these beside the first one (docs/journal.md).
  *
  * Errors, and the settings are as before: ZUPHINKA_POOL_ERROR_NULL_POINTER, also for settings of no bytes; _MISSING_CALLBACK, if there is no `store`;
  * _NOT_TEXT, _NOT_TOML, _UNKNOWN_KEY, _WRONG_TYPE, _OUT_OF_RANGE; _JOURNAL_FULL, if the new journalLimit leaves no room for the entries that end what

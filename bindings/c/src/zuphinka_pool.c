@@ -1,7 +1,7 @@
-/* A pool of objects for threads over the proved calls. zuphinka_pool.h explains its calls; docs/guide/concepts.md has the life of an object.
+/* A pool of objects for threads over the proved calls. zuphinka_pool.h explains its calls; docs/concepts.md has the life of an object.
  *
  * The library decides what a call does next, which calls wait, which one is woken, and when a journal is dropped (zuphinka_begin, zuphinka_advance);
- * docs/proof/proved.md says what of that is proved. This file has the lock and the waits of the threads, the callbacks, the loans, and the cuts of the
+ * docs/proved.md says what of that is proved. This file has the lock and the waits of the threads, the callbacks, the loans, and the cuts of the
  * journal. */
 #ifndef _GNU_SOURCE
 #define _GNU_SOURCE

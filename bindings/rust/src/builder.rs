@@ -26,7 +26,7 @@ use std::io;
 use std::sync::Arc;
 use std::time::{Duration, Instant};
 
-/// The settings of a pool to be opened. The brackets have the name of the property, in settings files and in `docs/guide/settings.md`, and its
+/// The settings of a pool to be opened. The brackets have the name of the property, in settings files and in `docs/settings.md`, and its
 /// default, which is that of Commons Pool 2 unless the text says otherwise.
 ///
 /// A time is rounded up to whole milliseconds.

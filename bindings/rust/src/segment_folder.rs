@@ -23,7 +23,7 @@ const MOST_BYTES: u64 = 16 << 20;
 /// | `segment-POSITION` | a base and the entries that continue it; the position of the first one has 20 digits |
 /// | `callers.txt` | a line `NUMBER NAME` for each thread with a name that took a step. Control characters in it are `?` |
 ///
-/// `pool check FOLDER/settings.toml FOLDER/segment-*` checks the segments of a start, each with its settings (`docs/guide/audits.md`).
+/// `pool check FOLDER/settings.toml FOLDER/segment-*` checks the segments of a start, each with its settings (`docs/journal.md`).
 ///
 /// A segment is appended to the last file, without its base, unless the settings changed, that file is not there any more, has 16 MiB, or
 /// would have more entries than `journalLimit` allows. So a week is hundreds of files. Each append is synced. After a crash of the machine the last

@@ -17,7 +17,7 @@ const MOST_BYTES: usize = 1 << 16;
 /// The limit of a wait if nothing else is set: that of r2d2.
 pub(crate) const DEFAULT_WAIT_MILLIS: i64 = 30_000;
 
-/// The settings. `docs/guide/settings.md` explains each.
+/// The settings. `docs/settings.md` explains each.
 #[derive(Clone, Debug, PartialEq, Eq)]
 pub(crate) struct Settings {
     pub block_when_exhausted: bool,

@@ -1,4 +1,4 @@
-//! The steps of the core that a pool takes by itself, for pairs with hooks and for the age of its objects. `docs/proof/definitions.md` defines each.
+//! The steps of the core that a pool takes by itself, for pairs with hooks and for the age of its objects. `docs/definitions.md` defines each.
 
 use std::io;
 
