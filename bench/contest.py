@@ -1,10 +1,8 @@
-"""What the benchmarks share: the machine, and what else its processors do meanwhile; what must be there for a program, how programs are built, tables,
-and the last line."""
+"""What the benchmarks share: the machine, and what else its processors do meanwhile; how programs are built, and tables."""
 
 import argparse
 import os
 import pathlib
-import shutil
 import subprocess
 import sys
 import tempfile
@@ -19,6 +17,11 @@ from playing import COMPILER
 
 LIBRARY, JAR = java.LIBRARY, java.DEBIAN_JAR
 REGISTRY = pathlib.Path("/usr/share/cargo/registry")
+# Debian's packages of the pools that ours are compared with, of what they are over, and of the compilers.
+PACKAGES = (
+    "libcommons-pool2-java", "libcommons-dbcp2-java", "libhikaricp-java", "librust-r2d2-dev", "librust-tokio-dev", "librust-tokio-postgres-dev",
+    "libpostgresql-jdbc-java", "libpq-dev", "default-jdk-headless", "gcc",
+)
 
 
 class Miscounted(Exception):
@@ -35,6 +38,13 @@ def processor():
 def moment():
     """The date, the time, and the load average of the last minute."""
     return f"{time.strftime('%Y-%m-%d %H:%M %Z')}, load average {os.getloadavg()[0]:.2f}"
+
+
+def announce(work):
+    """Prints the machine, the versions of what is installed, and the work."""
+    words = "dpkg-query", "--show", "--showformat=${Package} ${Version}, ", *PACKAGES
+    installed = subprocess.run(words, stdout=subprocess.PIPE, stderr=subprocess.DEVNULL, text=True).stdout
+    print(processor(), f"{installed}{version_of('rustc', '--version')}", f"{moment()}; {work}\n", sep="\n", flush=True)
 
 
 def times():
@@ -94,6 +104,25 @@ def built_c(program, *words):
     return program
 
 
+def over_c_pool(library):
+    """What a program over the C pool is linked of."""
+    return POOL, library, heap_of_kit()
+
+
+def built_java(place, folder, names, jars, library=None, in_place=False):
+    """Compiles classes of a folder over jars, with the pool for Java if its library is given, and with our class in place of Commons Pool's. Returns the
+    command that runs the first class."""
+    native, files = place / "libzuphinka_jni.so", [folder / f"{name}.java" for name in names]
+    if library:
+        java.compile_native(library, heap_of_kit(), native)
+        files += (java.JAVA / "src").rglob("*.java")
+    if in_place:
+        files += (java.DROP_IN / "src").rglob("*.java")
+    java.compile_classes(files, place, *jars)
+    path = [place, *jars] if in_place else [*jars, place]
+    return ["java", "-XX:-UsePerfData", f"-Dzuphinka.library={native}", "-cp", os.pathsep.join(map(str, path)), names[0]]
+
+
 def version_of(*command):
     """The first line that a program prints of its version. It is empty if the program does not run."""
     try:
@@ -107,71 +136,22 @@ def runs_cargo():
     return bool(version_of("cargo", "--version"))
 
 
-def version_of_jdk():
-    """The version of the command java. It is empty if it or javac does not run."""
-    return version_of("javac", "-version") and version_of("java", "-version")
-
-
-class Contest:
-    """What is built in a folder for the columns that are wanted: the programs, the versions of what is used, and why columns are left out, as lines."""
-
-    def __init__(self, folder, asked, columns):
-        self.folder, self.library, self.registry = pathlib.Path(folder), asked.library, asked.registry
-        self.wanted = getattr(asked, "only", None) or columns
-        self.versions, self.left_out, self.programs = [], [], {}
-
-    def announce(self, work):
-        """Prints what is left out, the machine, the versions and the work."""
-        print(*self.left_out, "; ".join(filter(None, [processor(), ", ".join(self.versions)])), f"{moment()}; {work}\n", sep="\n", flush=True)
-
-    def wants(self, *columns):
-        """Those of some columns that are wanted."""
-        return [column for column in columns if column in self.wanted]
-
-    def has(self, columns, *needs):
-        """Whether all is there that some columns need. Each need is what was found, if anything was, and its name."""
-        missing = [name for found, name in needs if not found]
-        self.left_out += [f"left out: {column}: no {name}" for column in columns for name in missing]
-        return not missing
-
-    def of_ours(self):
-        """What a pool in C or Java of ours needs."""
-        return (self.library.exists(), f"libzuphinka.a ({self.library})"), (shutil.which(COMPILER), "C compiler")
-
-    def of_crates(self, packages):
-        """What a program in Rust needs that uses these crates, by the Debian packages that have them."""
-        return (runs_cargo(), "cargo"), *((self.sources_of(name), f"{package} ({self.registry})") for name, package in packages.items())
-
-    def sources_of(self, crate):
-        return sorted(self.registry.glob(f"{crate}-[0-9]*"))
-
-    def note(self, *versions):
-        self.versions += [version for version in versions if version not in self.versions]
-
-    def note_jars(self, *jars):
-        """Notes the versions of jars, which longer names of them have."""
-        self.note(*(path.stem for jar in jars for path in sorted(jar.parent.glob(f"{jar.stem}-[0-9]*.jar"))[-1:]))
-
-    def sources_of_c_pool(self):
-        return POOL, self.library, heap_of_kit()
-
-    def built_java(self, folder, names, jars, has_ours, in_place=False):
-        """Compiles classes of a folder over jars, with the pool for Java if they need it, and with our class in place of Commons Pool's. Returns the
-        command that runs the first class."""
-        native, files = self.folder / "libzuphinka_jni.so", [folder / f"{name}.java" for name in names]
-        if has_ours:
-            java.compile_native(self.library, heap_of_kit(), native)
-            files += (java.JAVA / "src").rglob("*.java")
-        if in_place:
-            files += (java.DROP_IN / "src").rglob("*.java")
-        java.compile_classes(files, self.folder, *jars)
-        path = [self.folder, *jars] if in_place else [*jars, self.folder]
-        return ["java", "-XX:-UsePerfData", f"-Dzuphinka.library={native}", "-cp", os.pathsep.join(map(str, path)), names[0]]
+def entered(builders, wanted):
+    """What comes of the builders of the wanted columns, by the names of these or of some of them. A builder that lacks something is named and left out."""
+    found = {}
+    for columns, builder in builders.items():
+        if not {*columns}.isdisjoint(wanted):
+            try:
+                found |= builder([column for column in columns if column in wanted])
+            except (OSError, subprocess.CalledProcessError, java.Missing, SystemExit) as error:
+                print(f"left out: {'; '.join(columns)}:", *str(error).splitlines()[:2], flush=True)
+    return found or sys.exit("nothing to run")
 
 
 def parser_of(description):
     """A parser of the options that all comparisons have."""
     parser = argparse.ArgumentParser(description=description, formatter_class=argparse.RawDescriptionHelpFormatter)
+    parser.add_argument("--only", metavar="COLUMN", action="append")
     parser.add_argument("--rounds", type=int, default=5)
     parser.add_argument("--library", type=pathlib.Path, default=LIBRARY)
     parser.add_argument("--registry", type=pathlib.Path, default=REGISTRY)
@@ -199,23 +179,10 @@ def measured(title, rows, name_of, race, form):
     return found
 
 
-def print_missed(rows, word):
-    """Prints the targets that are missed, and the last line. Each row has a line for each target that it misses, and an empty one for each that it
-    reaches. Returns whether one is missed."""
-    for line in filter(None, sum(rows, [])):
-        print(line)
-    missed = sum(any(lines) for lines in rows)
-    print(f"{sum(map(bool, rows))} rows, {missed} {word}")
-    return missed > 0
-
-
-def play(parser, asked, contest, compare):
-    """Builds the programs of a contest in a temporary folder, and ends this process with what `compare` returns, or with the run that failed."""
+def play(compare, *words):
+    """Calls this with a temporary folder and the words. Ends this process if a run failed."""
     with tempfile.TemporaryDirectory(prefix="zuphinka-", ignore_cleanup_errors=True) as folder:
-        entered = contest(folder, asked)
-        if not entered.programs:
-            parser.error(f"nothing to run: {'; '.join(entered.left_out)}")
         try:
-            sys.exit(compare(entered, asked))
+            compare(pathlib.Path(folder), *words)
         except Miscounted as error:
             sys.exit(f"a run failed: {error}")

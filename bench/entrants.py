@@ -1,13 +1,13 @@
 """The pools that `bench/peers` compares: how each is built, run and checked."""
 
 import dataclasses
+import functools
 import os
 import pathlib
-import shutil
 import time
 from collections.abc import Callable
 
-from contest import COMPILER, JAR, TOP, Contest, Miscounted, build, built, built_by_cargo, built_c, version_of, version_of_jdk
+from contest import JAR, TOP, Miscounted, build, built, built_by_cargo, built_c, built_java, over_c_pool
 from playing import preloaded, run
 
 CONTESTANTS, RUST, CRATE = TOP / "bench/peers_java", TOP / "bench/peers_rust", TOP / "bindings/rust"
@@ -22,8 +22,6 @@ HIKARI = "HikariCP bag"
 COUNTER, CLOCK, HOOKS = "crate, counter", "crate, clock", "crate, clock, hooks"
 C = "C"
 LOAD, THREADS_OF_LOAD = "load", "load, threads alone"
-OF_JAVA = [COMMONS, JAVA, COMMONS_HOOKS, JAVA_HOOKS, IN_PLACE, IN_PLACE_HOOKS]
-COLUMNS = [*OF_JAVA, HIKARI, R2D2, PLAIN, COUNTER, CLOCK, HOOKS, C, LOAD, THREADS_OF_LOAD]
 # The words of the crate's example for each of its columns.
 PAIRS_WORDS = {COUNTER: [], CLOCK: ["instant"], HOOKS: ["instant", "hooks"]}
 JOURNAL_LIMIT = 1 << 32
@@ -79,142 +77,96 @@ def is_right_peer(row, report):
     return pairs == row.pairs and 1 <= created <= row.objects
 
 
-def is_right_contestant(kind, row, report):
-    pairs, created, nanoseconds = numbers(report, f"{kind}-pairs", f"{kind}-created", f"{kind}-nanoseconds")
-    return pairs == row.pairs and 1 <= created <= row.objects and nanoseconds > 0
-
-
-def is_right_crate(row, report):
-    """A pair is four entries at least, an object two more in the end, and the close one."""
-    created, destroyed, steps = numbers(report, "created", "destroyed", "steps")
-    asked = numbers(report, "workers", "rounds", "refused") == [row.threads, row.each, 0]
-    return asked and 1 <= created == destroyed and steps >= 4 * row.pairs + 2 * created + 1
-
-
 def is_right_load(row, report):
+    """A pair that is kept in a journal is four entries at least, an object two more in the end, and the close one."""
     created, destroyed = numbers(report, "created", "destroyed")
-    asked = numbers(report, "workers", "rounds", "refused", "borrowed", "returned")
-    return asked == [row.threads, row.each, 0, row.pairs, row.pairs] and 1 <= created == destroyed
+    asked = numbers(report, "workers", "rounds", "refused") == [row.threads, row.each, 0]
+    if "steps" in report:
+        done = int(report["steps"]) >= 4 * row.pairs + 2 * created + 1
+    else:
+        done = numbers(report, "borrowed", "returned") == [row.pairs] * 2
+    return asked and done and 1 <= created == destroyed
 
 
-class Entrants(Contest):
-    """The programs, built in a folder. `asked` has the places of what they need, and the program `pool`; if that is `None`, it is built where `load` is
-    wanted."""
+def peer(column, program):
+    """A program that is given the numbers of a row."""
+    return {column: Entrant([column], lambda row: [program, row.objects, row.threads, row.each], is_right_peer)}
 
-    def __init__(self, folder, asked):
-        super().__init__(folder, asked, COLUMNS)
-        self.pool, self.programs = asked.pool, []
-        of_java = self.enter_java, self.enter_in_place, self.enter_hikari
-        for enter in *of_java, self.enter_r2d2, self.enter_plain, self.enter_crate, self.enter_c, self.enter_load:
-            enter()
 
-    def built_contest(self, kinds, has_ours, in_place=False):
-        """Builds the contestants that use Commons Pool 2, of these kinds."""
-        self.note_jars(COMMONS_JAR)
-        self.note(version_of_jdk())
-        return self.built_java(CONTESTANTS, ["Bench", "Contestant", "Holders", *kinds], [COMMONS_JAR], has_ours, in_place)
+def contestants(program, factory, columns):
+    """Contestants in Java that take turns, whose times are those that they measured after their warm-up. `columns` has the column of each."""
 
-    def of_commons(self):
-        """What all need that use Commons Pool 2."""
-        return (version_of_jdk(), "JDK"), (COMMONS_JAR.exists(), f"libcommons-pool2-java ({COMMONS_JAR})")
+    def is_right(row, report):
+        found = [numbers(report, f"{kind}-pairs", f"{kind}-created", f"{kind}-nanoseconds") for kind in columns]
+        return all(pairs == row.pairs and 1 <= created <= row.objects and nanoseconds > 0 for pairs, created, nanoseconds in found)
 
-    def enter_java(self):
-        """Enters Commons Pool 2 and the pool for Java, which take turns in one virtual machine; and both once more with hooks."""
-        factories = {"bare": (COMMONS, JAVA), "hooked": (COMMONS_HOOKS, JAVA_HOOKS)}
-        factories = {factory: columns for factory, columns in factories.items() if self.wants(*columns)}
-        if not factories:
-            return
-        has_commons, has_java = self.has([COMMONS], *self.of_commons()), self.has([JAVA], *self.of_commons(), *self.of_ours())
-        if not has_commons:
-            return
-        kinds = ["Commons", "Zuphinka"] if has_java else ["Commons"]
-        program = self.built_contest(kinds, has_java)
-        for factory, columns in factories.items():
-            self.enter_contestants(program, factory, dict(zip(kinds, columns)))
+    def command(row):
+        return [*program, row.objects, row.threads, row.each, factory, *columns]
 
-    def enter_in_place(self):
-        """Enters our class with the name of Commons Pool's, which comes first on the class path of a virtual machine of its own."""
-        factories = {factory: column for factory, column in {"bare": IN_PLACE, "hooked": IN_PLACE_HOOKS}.items() if self.wants(column)}
-        if factories and self.has([IN_PLACE], *self.of_commons(), *self.of_ours()):
-            program = self.built_contest(["Commons", "InPlace"], True, in_place=True)
-            for factory, column in factories.items():
-                self.enter_contestants(program, factory, {"InPlace": column})
+    def times(report, _):
+        return [int(report[f"{kind}-nanoseconds"]) / 1e9 for kind in columns]
 
-    def enter_hikari(self):
-        """Enters HikariCP's bag of objects, in a virtual machine of its own. It loads only with the interface of its logger."""
-        if not self.wants(HIKARI):
-            return
-        logger = HIKARI_JAR.with_name("slf4j-api.jar")
-        jars = (HIKARI_JAR.exists(), f"libhikaricp-java ({HIKARI_JAR})"), (logger.exists(), f"libslf4j-java ({logger})")
-        if self.has([HIKARI], (version_of_jdk(), "JDK"), *jars):
-            self.note_jars(HIKARI_JAR)
-            self.note(version_of_jdk())
-            program = self.built_java(CONTESTANTS, ["Bench", "Contestant", "Hikari"], [HIKARI_JAR, logger], False)
-            self.enter_contestants(program, "bare", {"Hikari": HIKARI})
+    return Entrant([*columns.values()], command, is_right, times)
 
-    def enter_contestants(self, program, factory, columns):
-        """Enters contestants in Java, whose times are those that they measured after their warm-up. `columns` has the column of each."""
 
-        def is_right(row, report):
-            return all(is_right_contestant(kind, row, report) for kind in columns)
+def in_java(folder, others, kinds, factories, jars, wanted, **options):
+    """Builds contestants in Java with other classes, and enters them with each factory of which a column is wanted, by the first column of that."""
+    place = folder / "-".join(kinds)
+    place.mkdir()
+    program = built_java(place, CONTESTANTS, ["Bench", "Contestant", *others, *kinds], jars, **options)
+    chosen = {factory: columns for factory, columns in factories.items() if not {*columns}.isdisjoint(wanted)}
+    return {columns[0]: contestants(program, factory, dict(zip(kinds, columns))) for factory, columns in chosen.items()}
 
-        def command(row):
-            return [*program, row.objects, row.threads, row.each, factory, *columns]
 
-        def times(report, _):
-            return [int(report[f"{kind}-nanoseconds"]) / 1e9 for kind in columns]
+def plain(folder, wanted):
+    program = folder / "plain_pool"
+    build("rustc", "-O", "--edition", "2021", RUST / "plain_pool.rs", "-o", program)
+    return peer(PLAIN, program)
 
-        self.programs.append(Entrant([*columns.values()], command, is_right, times))
 
-    def enter_r2d2(self):
-        if self.wants(R2D2) and self.has([R2D2], *self.of_crates({"r2d2": "librust-r2d2-dev"})):
-            self.note(self.sources_of("r2d2")[-1].name)
-            self.enter_peer(R2D2, built_by_cargo(RUST, registry=self.registry) / "r2d2_pool")
+def asks(folder, program, *words, before=()):
+    """The command of a program for each row, with settings that have a place for each object, and room for all entries if a journal is kept."""
 
-    def enter_plain(self):
-        rustc, program = version_of("rustc", "--version"), self.folder / "plain_pool"
-        if self.wants(PLAIN) and self.has([PLAIN], (rustc, "rustc")):
-            build("rustc", "-O", "--edition", "2021", RUST / "plain_pool.rs", "-o", program)
-            self.note(rustc)
-            self.enter_peer(PLAIN, program)
+    def command(row):
+        path = folder / f"{row.objects}.toml"
+        path.write_text(f"journalLimit = {JOURNAL_LIMIT}\nmaxTotal = {row.objects}\nmaxIdle = {row.objects}\n")
+        return [program, *before, path, row.threads, row.each, *words]
 
-    def enter_peer(self, column, program):
-        self.programs.append(Entrant([column], lambda row: [program, row.objects, row.threads, row.each], is_right_peer))
+    return command
 
-    def enter_crate(self):
-        columns = self.wants(*PAIRS_WORDS)
-        if columns and self.has(["crate"], *self.of_crates({})):
-            program = built_by_cargo(CRATE, "--example", "pairs") / "examples/pairs"
-            for column in columns:
-                self.programs.append(Entrant([column], self.asks(program, *PAIRS_WORDS[column]), is_right_crate))
 
-    def enter_c(self):
-        if self.wants(C) and self.has([C], *self.of_ours()):
-            self.enter_peer(C, built_c(self.folder / "pairs_c", TOP / "bench/pairs_c.c", *self.sources_of_c_pool()))
+def crate(folder, wanted):
+    program = built_by_cargo(CRATE, "--example", "pairs") / "examples/pairs"
+    return {column: Entrant([column], asks(folder, program, *PAIRS_WORDS[column]), is_right_load) for column in wanted}
 
-    def enter_load(self):
-        if not self.wants(LOAD, THREADS_OF_LOAD):
-            return
-        load = self.asks(self.pool or built("pool"), before=["load"])
-        if not self.has([THREADS_OF_LOAD], (shutil.which(COMPILER), "C compiler")):
-            self.programs.append(Entrant([LOAD], load, is_right_load))
-            return
-        library, worked = preloaded("worked", self.folder, TOP / "bench"), self.folder / "worked"
 
-        def times(report, seconds):
-            """The time of the whole process, and that of its threads, if they told."""
-            told = [float(worked.read_text())] if worked.exists() else []
-            worked.unlink(missing_ok=True)
-            return [seconds, *told]
+def load(folder, pool, wanted):
+    """`pool load`, once for the time of the whole process, and for that of its threads, which tell it to a preloaded library."""
+    library, worked = preloaded("worked", folder, TOP / "bench"), folder / "worked"
 
-        self.programs.append(Entrant([LOAD, THREADS_OF_LOAD], load, is_right_load, times, {"LD_PRELOAD": str(library), "WORKED": str(worked)}))
+    def times(report, seconds):
+        told = float(worked.read_text())
+        worked.unlink()
+        return [seconds, told]
 
-    def asks(self, program, *words, before=()):
-        """The command of a program for each row, with settings that have a place for each object, and room for all entries if a journal is kept."""
+    command, environment = asks(folder, pool or built("pool"), before=["load"]), {"LD_PRELOAD": str(library), "WORKED": str(worked)}
+    return {LOAD: Entrant([LOAD, THREADS_OF_LOAD], command, is_right_load, times, environment)}
 
-        def command(row):
-            path = self.folder / f"{row.objects}.toml"
-            path.write_text(f"journalLimit = {JOURNAL_LIMIT}\nmaxTotal = {row.objects}\nmaxIdle = {row.objects}\n")
-            return [program, *before, path, row.threads, row.each, *words]
 
-        return command
+def builders(folder, asked):
+    """What enters the columns. `asked` has the places of what they need, and the program `pool`, if it is not to be built."""
+    of_java = {"bare": [COMMONS, JAVA], "hooked": [COMMONS_HOOKS, JAVA_HOOKS]}
+    in_place = {"bare": [IN_PLACE], "hooked": [IN_PLACE_HOOKS]}
+    jars, of_hikari = [COMMONS_JAR], [HIKARI_JAR, HIKARI_JAR.with_name("slf4j-api.jar")]
+    return {
+        (COMMONS, JAVA, COMMONS_HOOKS, JAVA_HOOKS):
+            lambda wanted: in_java(folder, ["Holders"], ["Commons", "Zuphinka"], of_java, jars, wanted, library=asked.library),
+        (IN_PLACE, IN_PLACE_HOOKS):
+            lambda wanted: in_java(folder, ["Holders", "Commons"], ["InPlace"], in_place, jars, wanted, library=asked.library, in_place=True),
+        (HIKARI,): lambda wanted: in_java(folder, [], ["Hikari"], {"bare": [HIKARI]}, of_hikari, wanted),
+        (R2D2,): lambda _: peer(R2D2, built_by_cargo(RUST, registry=asked.registry) / "r2d2_pool"),
+        (PLAIN,): functools.partial(plain, folder),
+        tuple(PAIRS_WORDS): functools.partial(crate, folder),
+        (C,): lambda _: peer(C, built_c(folder / "pairs_c", TOP / "bench/pairs_c.c", *over_c_pool(asked.library))),
+        (LOAD, THREADS_OF_LOAD): functools.partial(load, folder, asked.pool),
+    }

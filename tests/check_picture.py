@@ -17,8 +17,9 @@ import sys
 import xml.etree.ElementTree as xml
 
 import picture_model
+import random
 from case_files import unpacked
-from play_damaged import SETTINGS, Chance, journal_by_chance
+from play_damaged import SETTINGS, journal_by_chance
 from playing import TOP, differing, preloaded, refusals, run, scratch, tell, write_files
 from pool_model import cut_at, settings_of
 
@@ -180,22 +181,22 @@ def long_journal(count):
 
 def random_phrase(chance, phrases, ids):
     """An input or an answer, with random words in it."""
-    words = {"ID": str(chance.below(ids)), "OUTCOME": chance.one_of(["good", "good", "makefail", "createfail", "testfail", "passivatefail"])}
-    return " ".join(words.get(word, word) for word in chance.one_of(phrases).split(" "))
+    words = {"ID": str(chance.randrange(ids)), "OUTCOME": chance.choice(["good", "good", "makefail", "createfail", "testfail", "passivatefail"])}
+    return " ".join(words.get(word, word) for word in chance.choice(phrases).split(" "))
 
 
 def random_journal(seed, count):
     """Entries of which each is one at random, with times that leap and go back."""
-    chance, at = Chance(seed), Chance(seed).below(10**6)
+    chance, at = random.Random(seed), random.Random(seed).randrange(10**6)
     inputs = ["borrow 7"] * 6 + ["ready ID OUTCOME"] * 3 + ["return ID", "park ID OUTCOME", "invalidate ID", "use ID", "add", "evictnext"]
     inputs += ["tested ID OUTCOME", "destroyed ID", "added ID OUTCOME", "reclaim maintain", "reclaimnext", "close", "clear", "fill"]
     answers = ["wait", "lent", "lent", "make ID", "take ID", "check", "parked", "kept", "destroy", "freed", "test ID", "destroyidle ID"]
     answers += ["reclaimed ID", "exhausted", "timeout", "refused closed", "noted", "count 3", "nothing", "gone", "keptidle ID"]
     for _ in range(count):
-        leap = chance.one_of([0, 0, 1, 5, 40, 1000 if seed % 2 else 10**6 if chance.below(50) == 0 else 3])
-        at = max(0, at + leap - chance.one_of([0, 0, 0, 7]))
+        leap = chance.choice([0, 0, 1, 5, 40, 1000 if seed % 2 else 10**6 if chance.randrange(50) == 0 else 3])
+        at = max(0, at + leap - chance.choice([0, 0, 0, 7]))
         ids = 60 if seed % 3 else 9
-        yield f"{chance.below(12)} {at} {random_phrase(chance, inputs, ids)} = {random_phrase(chance, answers, ids)}"
+        yield f"{chance.randrange(12)} {at} {random_phrase(chance, inputs, ids)} = {random_phrase(chance, answers, ids)}"
 
 
 def with_lines(path, lines):

@@ -2,13 +2,12 @@
 
     check_rust.py POOL JUDGE
 
-POOL and JUDGE are the programs `pool` and `judge`, or both are tests/model_program.py. The crate's tests are cargo's: those in its files, in
+POOL and JUDGE are the programs `pool` and `judge`. The crate's tests are cargo's: those in its files, in
 tests/ and in its pages. The segments that the examples `first_loan` and `servers` store are judged by the program; what the example `settings` writes
-of a file must be what Python reads there; the example `pairs` must make as many entries as its rounds are, whatever becomes of its journal, and the
-segments that it stores are judged too; the segments of pools whose settings change, which a test stores, are legal with the settings that each has;
+of a file must be what Python reads there; the segments of pools whose settings change, which a test stores, are legal with the settings that each has;
 the metrics that a test writes must be in the format and agree with each other (tests/openmetrics.py); and the codes, the fields and the functions of
-`src/sys.rs` must be those of `bindings/c/include/zuphinka.h`. The tests under tokio run where Debian has its source; everywhere the files that they
-name must be there. What cannot be tested is skipped, with the reason: all of it if no cargo runs.
+`src/sys.rs` must be those of `bindings/c/include/zuphinka.h`. The tests under tokio run where Debian has its source. What cannot be tested is skipped,
+with the reason: all of it if no cargo runs.
 
 Prints what fails, and in the end the line 'N passed, M failed'.
 """
@@ -24,7 +23,6 @@ from case_files import CASES, unpacked
 from playing import NO_CARGO, TOP, ended, has, play_checks, run, scratch, skip_all, start_of, stored_journal
 
 from contest import REGISTRY, built_by_cargo, of_registry, runs_cargo
-from entrants import numbers
 
 CRATE = TOP / "bindings/rust"
 # The tests under tokio.
@@ -36,7 +34,6 @@ TYPES = {"u64": "uint64_t", "u32": "uint32_t", "i64": "int64_t", "i32": "int32_t
 STRUCTS = {"Handle": "", "Settings": "_setup", "Counts": "_tally"}
 # The functions that the binding does without: it opens pools with options.
 UNUSED = {"zuphinka_version", "zuphinka_open", "zuphinka_set_overtakes", "zuphinka_is_lent"}
-WORKERS, ROUNDS = 4, 20_000
 # The examples that store a journal, with what they print.
 STORING = {"first_loan": b"session 0\n", "servers": b""}
 # How many borrows the test of the metrics makes.
@@ -54,29 +51,12 @@ def tests(package, *options, **variables):
     yield from ((f"a test of cargo's in {package.name}", True, number < passed) for number in range(passed + failed))
 
 
-def check_trial():
-    """The files that the tests under tokio name are there. This is seen where they are skipped, too."""
-    files = re.findall(r'^#\[path = "(.*)"\]$', (TRIAL / "tokio_trial.rs").read_text(), flags=re.MULTILINE)
-    manifest = tomllib.loads((TRIAL / "Cargo.toml").read_text())
-    crates = [crate["path"] + "/Cargo.toml" for crate in manifest["dependencies"].values() if "path" in crate]
-    yield "tests/tokio_trial names files and crates", (True, True), (bool(files), bool(crates))
-    yield "files that tests/tokio_trial names and that are missing", [], [name for name in files + crates if not (TRIAL / name).is_file()]
-
-
 def check_stored(example, printed, pool):
     """What an example prints, and the journal that it stores, judged by the program."""
     with scratch() as folder:
         done = run(example, folder / "journal")
         yield example.name, (printed, 0), (done.stdout, done.returncode and done)
         yield f"the journal of {example.name}", *stored_journal(pool, folder / "journal")
-
-
-def check_examples():
-    """Each example is built: by the crate, or by the folder of its name, which has what it depends on."""
-    listed = {example["name"] for example in tomllib.loads((CRATE / "Cargo.toml").read_text())["example"]}
-    alone = {folder.parent.name for folder in (CRATE / "examples").glob("*/Cargo.toml")}
-    yield "the examples that are built", {file.stem for file in (CRATE / "examples").glob("*.rs")}, listed | alone
-    yield "examples that are built in two ways", set(), listed & alone
 
 
 def defaults():
@@ -121,21 +101,10 @@ def check_binding():
         yield f"the parameters of {name}, as in the header", declared.get(name), bound.get(name)
 
 
-def check_pairs(pairs, pool):
-    """Four entries a round where nobody waits, and two more for each object and one for the close in the end."""
-    with scratch() as folder:
-        settings, journal = folder / "settings.toml", folder / "journal"
-        settings.write_text(f"maxTotal = {WORKERS}\nmaxIdle = {WORKERS}\n")
-        for words in [], ["instant"], ["hooks"], ["memory", "instant"], [f"segments={journal}", "hooks"]:
-            done = run(pairs, settings, str(WORKERS), str(ROUNDS), *words)
-            created, *others = numbers(dict(line.split() for line in done.stdout.decode().splitlines()), "created", "destroyed", "steps", "refused")
-            steps = 4 * WORKERS * ROUNDS + 2 * created + 1
-            yield f"pairs {words}", (True, [created, steps, 0]), (1 <= created <= WORKERS or done, others)
-        yield "the journal of pairs", (b"legal %d\n" % steps, b"", True), stored_journal(pool, journal)[1]
-
-
 def check_metrics(file):
     """The metrics that a test has read while threads borrow."""
+    if not openmetrics.is_read("the metrics of the Rust crate"):
+        return
     texts = openmetrics.texts_of(file.read_text()) if file.exists() else []
     yield "the metrics", "", openmetrics.fault_of(openmetrics.check_course, texts, MEASURED)
     yield "there are texts of metrics", True, len(texts) > 2 or len(texts)
@@ -191,8 +160,7 @@ def checks(pool, judge):
     for name, printed in STORING.items():
         yield from check_stored(examples / name, printed, pool)
     yield from check_settings(examples / "settings")
-    yield from check_pairs(examples / "pairs", pool)
-    for check in check_examples, check_trial, check_binding, check_documentation, check_targets:
+    for check in check_binding, check_documentation, check_targets:
         yield from check()
 
 

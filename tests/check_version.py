@@ -3,23 +3,27 @@ header, the C library, the programs, the man page and the change log.
 
     check_version.py [PROGRAM..]
 
-Each constant VERSION in the sources of a crate is what a program prints: its name, the version and a line feed. Of the PROGRAMs, paths of
-such programs, that is what `--version` prints. What the C library returns, and its contract, is the version as one number. Prints each that differs,
-and in the end the line 'N passed, M failed'.
+Each PROGRAM, a path, prints its name, the version and a line feed for `--version`. What the C library returns, and its contract, is the version as one
+number. Prints each that differs, and in the end the line 'N passed, M failed'.
 """
 
 import pathlib
 import re
 import sys
-import tomllib
 
 from playing import TOP, play_checks, run
 
-PROGRAMS = ["journal_picture", "judge", "pool"]
-HEADER = "bindings/c/include/zuphinka.h"
+HEADER, JAVA = "bindings/c/include/zuphinka.h", "bindings/java"
+# What tells the version in each file, as often as it is there.
+PLACES = (
+    ("bindings/rust/Cargo.toml", r'^version = "(.*)"$'), ("bindings/rust/Cargo.lock", r'^name = "zuphinka"\nversion = "(.*)"$'),
+    (f"{JAVA}/pom.xml", r"^  <version>(.*)</version>$"), (f"{JAVA}/commons-pool2/pom.xml", r"^  <version>(.*)</version>$"),
+    (f"{JAVA}/README.md", r"<artifactId>zuphinka-commons-pool2</artifactId>\n *<version>(.*)</version>"),
+    (f"{JAVA}/README.md", r"'io.github.zuphinka:\S*:([\d.]*)'"),
+    (HEADER, r'^#define ZUPHINKA_VERSION "(.*)"$'), ("docs/pool.1", r'^\.TH POOL 1 "" "Zuphinka (.*)"$'),
+)
 # The contract and the body of the library's function, which has the number twice.
 NUMBER = r"fn zuphinka_version\(\) -> u32\n    ensures \{ result ≡ (\d+) \}\n\{\n    ([\d_]+)\n\}"
-PRINTED = re.compile(r'^pub(?:\(crate\))? const VERSION: &str = "(.*)\\n";$', re.MULTILINE)
 
 
 def found(pattern, name):
@@ -27,39 +31,17 @@ def found(pattern, name):
     return re.findall(pattern, (TOP / name).read_text(), flags=re.MULTILINE)
 
 
-def number(version):
-    """A version as one number, as zuphinka.h makes it of its three."""
-    major, minor, patch = map(int, version.split("."))
-    return major * 1_000_000 + minor * 1_000 + patch
-
-
-def printed():
-    """What the programs print by the sources, by the first word of it, their names."""
-    lines = (line for path in sorted(TOP.glob("crates/*/src/*.rt")) for line in PRINTED.findall(path.read_text()))
-    return {line.partition(" ")[0]: line for line in lines}
-
-
 def checks(version, programs):
     """What tells a version: its name, what is wanted of it, and what it tells."""
-    lock = tomllib.loads((TOP / "bindings/rust/Cargo.lock").read_text())["package"]
-    yield "the form of VERSION", True, bool(re.fullmatch(r"\d+\.\d+\.\d+", version))
-    yield "Cargo.toml", version, tomllib.loads((TOP / "bindings/rust/Cargo.toml").read_text())["package"]["version"]
-    yield "Cargo.lock", [version], [package["version"] for package in lock if package["name"] == "zuphinka"]
-    for name in "bindings/java/pom.xml", "bindings/java/commons-pool2/pom.xml":
-        yield name, [version], found(r"^  <version>(.*)</version>$", name)
-    shown = found(r"<artifactId>zuphinka-commons-pool2</artifactId>\n *<version>(.*)</version>|'io.github.zuphinka:\S*:([\d.]*)'", "bindings/java/README.md")
-    yield "the dependencies of the page for Java", [version] * 2, ["".join(pair) for pair in shown]
-    yield "the text of zuphinka.h", [version], found(r'^#define ZUPHINKA_VERSION "(.*)"$', HEADER)
+    major, minor, patch = map(int, version.split("."))
+    number = major * 1_000_000 + minor * 1_000 + patch
+    for name, pattern in PLACES:
+        yield name, [version], found(pattern, name)
     yield "the numbers of zuphinka.h", version.split("."), found(r"^#define ZUPHINKA_VERSION_(?:MAJOR|MINOR|PATCH) (\d+)$", HEADER)
-    yield "the C library", [(number(version),) * 2], [tuple(map(int, numbers)) for numbers in found(NUMBER, "crates/zuphinka/src/lib.rt")]
-    yield "the man page", [f"Zuphinka {version}"], found(r'^\.TH POOL 1 "" "(.*)"$', "docs/pool.1")
+    yield "the C library", [(number, number)], [tuple(map(int, numbers)) for numbers in found(NUMBER, "crates/zuphinka/src/lib.rt")]
     yield "the change log", True, version in found(r"^## \[(.*?)\]", "CHANGELOG.md")
-    yield "the programs of the sources", PROGRAMS, sorted(printed())
-    for name, line in printed().items():
-        yield f"the source of {name}", f"{name} {version}", line
     for program in map(pathlib.Path, programs):
-        wanted = f"{program.name} {version}\n" if program.name in printed() else ""
-        yield f"{program} --version", wanted, run(program, "--version", text=True).stdout
+        yield f"{program} --version", f"{program.name} {version}\n", run(program, "--version", text=True).stdout
 
 
 if __name__ == "__main__":

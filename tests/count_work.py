@@ -3,19 +3,17 @@
     count_work.py POOL TALLY
 
 POOL is the program. Its allocations, the bytes that it holds, its reads and its writes are counted by a preloaded library
-(tests/count.c, built with the C compiler that CC names, or cc). Allocations and bytes must be within a quarter of what is said
-below of lists and their elements; reads and writes within bounds that follow from the size of the buffers. The allocations of clap, which
-depend on the words alone, are counted first, and left out of the others. Segments that are judged side by side must each be read once, so
-what was found of them ahead must be used: a segment that was judged again would be read twice. Each file must be opened once; those after the
-first 500 are opened before any is judged, and again for their base and for their lines.
+(tests/count.c, built with the C compiler that CC names, or cc). Reads and writes must be within bounds that follow from the size of the buffers, the
+bytes within a quarter of what is said below of buffers and objects, and allocations few, however many lines and objects there are. Segments that are
+judged side by side must each be read once, so what was found of them ahead must be used: a segment that was judged again would be read twice. Each
+file must be opened once; those after the first 500 are opened before any is judged, and again for their base and for their lines.
 
-TALLY is the test program crates/test_counts, which cuts a pool of up to 100,000 objects, reads the base that tests/pool_model.py tells, compares
+TALLY is the test program crates/test_counts, which cuts a pool of 100,000 objects, reads the base that tests/pool_model.py tells, compares
 and prints it, and opens a pool from it, which goes on as the model does. The allocations of each of these calls are counted.
 
 Prints each number that is out of its bounds, and in the end the line 'N passed, M failed'.
 """
 
-import dataclasses
 import pathlib
 import subprocess
 import sys
@@ -32,63 +30,24 @@ SETTINGS = 1_048_577
 # An object: the seven numbers and marks of its record, its value with the mark whether there is one, and its two links in the
 # queue, whose marks share a word; and its place in the index: its id, its key, and a mark.
 OBJECT = (7 + 2 + 3) * 8 + 3 * 8
-# A list has room for so many at first, and for twice as many each time that it is full.
-FIRST = 4
-# A list of bytes has room for so many at first.
-BYTES = 8
-# How many objects stand at least in a node of the map of those in the queue, and at most.
-NODE = 7, 15
-# The allocations of clap for each command: it builds the program's command with its subcommands, and then reads the words. A count must be
-# within a quarter of its number.
-CLAP = {"run": 63, "check": 64, "stats": 56, "load": 73}
-# For several journals clap allocates at most this more for each time that their number doubles.
-CLAP_MORE = 4
-# The calls of TALLY, in their order.
-CALLS = ["step", "cut", "read", "print", "open", "goon"]
+# The most allocations of a use, most of them by clap, which builds the program's command with its subcommands. A list has room for twice as many each
+# time that it is full.
+MOST_ALLOCATIONS = 200
+# The most allocations of the calls of TALLY, in their order, with OBJECTS: a cut takes a list of the objects' records and one of the entries that are
+# owed. The lists of the next two double, of records and of bytes. A pool is opened with lists and a map of those in the queue, of which each node has
+# at least seven.
+OBJECTS = 100_000
+CALLS = {"step": OBJECTS, "cut": 2, "read": 17, "print": 20, "open": 25 + OBJECTS // 7, "goon": OBJECTS}
 # How many files stay open until the check ends.
 KEPT = 500
 
 
-def room(count, first=FIRST):
-    """For how many elements a list with so many has room, and how often it has grown."""
-    held, growths = first, 0
-    while held < count:
-        held, growths = 2 * held, growths + 1
-    return (held, growths) if count else (0, -1)
-
-
-@dataclasses.dataclass
-class Script:
-    """A script with its journal; in the end so many objects are idle, and so many were lent."""
-
-    name: str
-    entries: list
-    idle: int = 0
-    lent: int = 0
-
-    def needs(self, command):
-        """The allocations of a command on it, without those of clap, and the most bytes that are held."""
-        words = {"run": 4, "check": 4, "stats": 3}[command]
-        # Each word and the look for one more, the list of the words, and once more.
-        allocations = words + 3
-        if command == "stats":
-            # Two buffers, and a node of the map of the moments at which objects were lent.
-            return allocations + 2 + min(self.lent, 1), 2 * BUFFER
-        # The settings' bytes, the document and its three keys; two buffers; the lists of objects and of their ids. No entry is held.
-        objects, more = room(self.idle)
-        allocations += 1 + 5 + 2 + 2 * (1 + more)
-        if command == "check":
-            # The lists of the journal's files and of their paths.
-            allocations += 2
-        return allocations, max(OBJECT * objects + 2 * BUFFER, SETTINGS)
-
-
 def scripts():
+    """Scripts with their journals: their names, their entries, and how many objects are idle in the end."""
     life = ["0 10 borrow 10 = make 0", "0 11 ready 0 good = lent", "0 15 return 0 = check", "0 16 park 0 good = parked"]
-    yield Script("a short life", life, 1, 1)
-    yield Script("1,200,000 uses", [f"7 {i} use {i} = refused notlent" for i in range(1_200_000)])
-    objects = [line for i in range(100_000) for line in (f"0 0 add = make {i}", f"0 1 added {i} good = parked")]
-    yield Script("100,000 objects", objects, 100_000)
+    yield "a short life", life, 1
+    yield "1,200,000 uses", [f"7 {i} use {i} = refused notlent" for i in range(1_200_000)], 0
+    yield "100,000 objects", [line for i in range(100_000) for line in (f"0 0 add = make {i}", f"0 1 added {i} good = parked")], 100_000
 
 
 class Counter:
@@ -96,8 +55,6 @@ class Counter:
         self.pool, self.folder = pool, folder
         self.library, self.file = preloaded("count", folder), folder / "counted"
         self.found = []
-        # The allocations of clap that were counted, by the command.
-        self.clap = {}
         self.environment = {"LD_PRELOAD": str(self.library), "COUNTED": str(self.file)}
         (folder / "settings.toml").write_text(NO_LIMITS)
 
@@ -117,15 +74,15 @@ class Counter:
             raise RuntimeError(f"{arguments[:4]}: status {done.returncode}, {done.stderr}")
         return self.counted()
 
-    def play(self, script, command):
-        journal = "".join(entry + "\n" for entry in script.entries)
-        text = "".join(entry.partition(" = ")[0] + "\n" for entry in script.entries) if command == "run" else journal
+    def play(self, command, name, entries, idle):
+        """Plays a script. At most two buffers and the lists of objects are held, with room for twice as many, or the settings."""
+        journal = "".join(entry + "\n" for entry in entries)
+        text = "".join(entry.partition(" = ")[0] + "\n" for entry in entries) if command == "run" else journal
         (self.folder / "text").write_text(text)
         counted = self.count([command, *(["settings.toml"] if command != "stats" else []), "text"])
-        name = f"{command} of {script.name}"
-        allocations, most = script.needs(command)
-        self.expect(f"{name}: allocations", counted["allocations"] - self.clap[command], allocations * 3 // 4, allocations * 5 // 4)
-        self.expect(f"{name}: bytes held", counted["most"], most * 3 // 4, most * 5 // 4)
+        name, most = f"{command} of {name}", 2 * BUFFER if command == "stats" else max(OBJECT * 2 * idle + 2 * BUFFER, SETTINGS)
+        self.expect(f"{name}: allocations", counted["allocations"], 1, MOST_ALLOCATIONS)
+        self.expect(f"{name}: bytes held", counted["most"], 1, most * 5 // 4)
         self.expect(f"{name}: files opened", counted["opened"], 2 - (command == "stats"), 2 - (command == "stats"))
         self.streams(name, command, counted, len(text), len(journal))
 
@@ -157,25 +114,6 @@ class Counter:
         self.expect(f"{name}: right answers {done}", int(ended(done) == wanted), 1, 1)
         # Pipes give less than is asked for.
         self.expect(f"{name}: bytes read", self.counted()["read"], len(front) + 1, len(front) + len(line) + 1000 * LINE + 2 * BUFFER)
-
-
-def play_words(counter):
-    """Uses whose first file is missing, so that they end once the words are read."""
-    uses = {"run": ["missing", "x"], "check": ["missing", "x"], "stats": ["missing"], "load": ["missing", "1", "1"]}
-    for command, words in uses.items():
-        counter.clap[command] = found = allocations_of_clap(counter, [command, *words])
-        counter.expect(f"words of {command}: allocations", found, CLAP[command] * 3 // 4, CLAP[command] * 5 // 4)
-    least = counter.clap["check"]
-    for count in (2, 10, 100, 10_000):
-        found = allocations_of_clap(counter, ["check", "missing", *["x"] * count])
-        counter.expect(f"words of a check of {count} journals: allocations", found, least, least + CLAP_MORE * (count - 1).bit_length())
-
-
-def allocations_of_clap(counter, words):
-    """The allocations of a use whose first file is missing, without those of the words, which `needs` counts (the program's name is one), and
-    of the list of the journals."""
-    others = len(words) + 1 + 3 + (words[0] == "check")
-    return counter.count(words, status=3)["allocations"] - others
 
 
 def play_endless(counter):
@@ -219,11 +157,6 @@ def play_side_by_side(counter):
     counter.expect("12 segments, the last not to its end: files opened", counted["opened"], 13, 13)
 
 
-def growths(count, first=FIRST):
-    """How often memory is asked for a list with so many elements that are appended one by one."""
-    return 1 + room(count, first)[1]
-
-
 def counts_of(pool):
     """The counts of a pool of the model, as TALLY tells them."""
     phases = [held.phase for held in pool.objects.values()]
@@ -232,57 +165,30 @@ def counts_of(pool):
     return b"opened %d %d %d %d %d %d %d %d\n" % (pool.position, idle, lent, len(phases) - idle - lent, pool.drawn, *ended)
 
 
-def allocations_of_calls(counter, tally, name, texts, wanted):
-    """How many allocations each call takes behind the one before it, by its word, where TALLY is given these texts of a journal and
-    of a segment; once it has made them all it must tell what is wanted."""
-    for file, text in zip(["journal", "segment"], texts):
-        (counter.folder / file).write_bytes(text)
-    found, before = {}, 0
-    for call in CALLS:
+def play_objects(counter, tally):
+    """The calls of TALLY: how many allocations each takes behind the one before it, and what is told once all are made."""
+    segments, pool = segments_of(settings_of(NO_LIMITS), OBJECTS)
+    (_, first), (_, second), (base, rest) = segments
+    (counter.folder / "journal").write_bytes(first + second)
+    (counter.folder / "segment").write_bytes(base + rest)
+    before = 0
+    for call, most in CALLS.items():
         done = run(tally, "settings.toml", "journal", "segment", call, cwd=counter.folder, env=counter.environment)
         allocations = counter.counted()["allocations"]
-        found[call], before = allocations - before, allocations
-    counter.expect(f"{name}: right answers {done}", int(ended(done) == (wanted, b"", 0)), 1, 1)
-    return found
-
-
-def play_objects(counter, tally, objects):
-    """A cut takes that list and one of the objects' records, for however many objects and entries."""
-    segments, pool = segments_of(settings_of(NO_LIMITS), objects)
-    (_, first), (_, second), (base, rest) = segments
-    name = f"{objects} objects"
-    found = allocations_of_calls(counter, tally, name, (first + second, base + rest), counts_of(pool))
-    counter.expect(f"a cut of {name}: allocations", found["cut"], 2, 2)
-    counter.expect(f"{name}, read: allocations", found["read"], growths(objects), growths(objects))
-    # A list of bytes has more room from the first on, where more than one is appended.
-    counter.expect(f"{name}, printed: allocations", found["print"], growths(len(base), BYTES) - 2, growths(len(base), BYTES))
-    # The values that are handed in; the neighbours, the entries that are owed, the objects, their ids, and the map of the queue.
-    queued = base.count(b" idle ")
-    lists = growths(queued) + growths(objects) + 3
-    least, most = NODE
-    counter.expect(f"{name}, opened: allocations", found["open"], lists + -(-queued // most), lists + 1 + queued // least)
-
-
-def play_cuts(counter, tally):
-    """A cut of many entries without an object takes one list, that of the entries that are owed."""
-    uses = b"".join(b"7 %d use %d = refused notlent\n" % (i, i) for i in range(300_000))
-    texts = uses, b"pool-journal 2 300000 0 open none 0 0 0 0\n"
-    found = allocations_of_calls(counter, tally, "300,000 uses", texts, b"opened 300000 0 0 0 0 0 0 0\n")
-    counter.expect("a cut of 300,000 uses: allocations", found["cut"], 1, 1)
-    for objects in (1, 100, 10_000, 100_000):
-        play_objects(counter, tally, objects)
+        counter.expect(f"{call} of {OBJECTS} objects: allocations", allocations - before, 0, most)
+        before = allocations
+    counter.expect(f"{OBJECTS} objects: right answers {done}", int(ended(done) == (counts_of(pool), b"", 0)), 1, 1)
 
 
 def main(pool, tally):
     with scratch() as made:
         counter = Counter(str(pathlib.Path(pool).resolve()), made)
-        play_words(counter)
         for script in scripts():
             for command in ("run", "check", "stats"):
-                counter.play(script, command)
+                counter.play(command, *script)
         play_endless(counter)
         play_side_by_side(counter)
-        play_cuts(counter, str(pathlib.Path(tally).resolve()))
+        play_objects(counter, str(pathlib.Path(tally).resolve()))
     return tell(counter.found)
 
 

@@ -1,10 +1,11 @@
 """Makes the expected output of the files of tests/cases anew, in the format that CONTRIBUTING.md explains, and cases from seeds.
 
-    make_cases.py
+    make_cases.py [--check]
 
 Settings, scripts and changes stay, and so do journals that no script makes. Answers, errors, verdicts and statistics are made anew, by
 tests/pool_model.py and tests/case_model.py. Segments that are legal together are made anew too: the journal of their script is cut at the same
-positions. Prints the name of each file that was changed.
+positions. Prints the name of each file that was changed. With --check none is changed: it prints the first line that would be in each, and in the end
+the line 'N passed, M failed'.
 
 Whatever plays all of tests/cases plays the cases of `seeded` too, which are made each time.
 
@@ -12,11 +13,14 @@ So if a rule has changed, change the model, run this, and read the difference.
 """
 
 import dataclasses
+import itertools
+import random
 import sys
 
-from case_files import CASES, TOP, Case, CaseError, files_of, lines_of, read_file, written
+from case_files import CASES, TOP, Case, files_of, lines_of, read_file, written
 from case_model import answer_to_settings, run, statistics_of
-from play_damaged import Chance, next_input
+from play_damaged import next_input, ways
+from playing import play_checks
 from pool_model import INPUTS, WORDS, Pool, cut_at, settings_of, verdict_of_segments, words_of
 
 # Values of settings, besides the defaults.
@@ -44,110 +48,103 @@ SHORTEST, LONGEST = 30, 80
 
 def lines_by_chance(values, chance):
     """A line of settings for each key, with one of its values, or none."""
-    return [f"{key} = {chance.one_of(values[key])}\n" for key in values if chance.below(3) == 0]
+    return [f"{key} = {chance.choice(values[key])}\n" for key in values if chance.randrange(3) == 0]
 
 
 def settings_by_chance(chance):
     lines = lines_by_chance(VALUES, chance)
-    if chance.below(2):
+    if chance.randrange(2):
         lines += ["[abandoned]\n", *lines_by_chance(OF_ABANDONED, chance)]
     return "".join(lines).encode()
 
 
 def input_by_chance(pool, at, chance):
     """An input that has something to do, mostly; or one with words at random."""
-    if chance.below(6):
+    if chance.randrange(6):
         return next_input(pool, at, chance)
-    name = chance.one_of(sorted(INPUTS))
-    numbers = {b"borrow": at - chance.below(at + 1)}
-    id = chance.below(pool.drawn + 2)
-    return name, *(numbers.get(name, id) if kind == "number" else chance.one_of(sorted(WORDS[kind])) for kind in INPUTS[name])
+    name = chance.choice(sorted(INPUTS))
+    numbers = {b"borrow": at - chance.randrange(at + 1)}
+    id = chance.randrange(pool.drawn + 2)
+    return name, *(numbers.get(name, id) if kind == "number" else chance.choice(sorted(WORDS[kind])) for kind in INPUTS[name])
 
 
 def script_by_chance(settings, chance):
     """The lines of a script. In half of them the pool is closed in the last third."""
     pool, at, lines = Pool({**settings, "journalLimit": 2**32}), 1000, []
-    length = SHORTEST + chance.below(LONGEST - SHORTEST)
-    closed_at = chance.one_of([length, length - 1 - chance.below(length // 3)])
+    length = SHORTEST + chance.randrange(LONGEST - SHORTEST)
+    closed_at = chance.choice([length, length - 1 - chance.randrange(length // 3)])
     for position in range(length):
-        at += chance.below(12)
+        at += chance.randrange(12)
         asked = (b"close",) if position == closed_at else input_by_chance(pool, at, chance)
-        lines.append(b"%d %d %s\n" % (chance.below(20), at, words_of(asked)))
+        lines.append(b"%d %d %s\n" % (chance.randrange(20), at, words_of(asked)))
         pool.take(at, asked, 0)
     return lines
 
 
 def with_other_byte(text, chance):
     """The text with one byte replaced by another one of lines, a line feed or one that is in no line."""
-    at, byte = chance.below(len(text)), chance.one_of(b"0123456789 =\nadeklmnoprstuvw\x00\xff")
+    at, byte = chance.randrange(len(text)), chance.choice(b"0123456789 =\nadeklmnoprstuvw\x00\xff")
     return text[:at] + bytes([byte]) + text[at + 1 :]
 
 
 def wrong_line(line, chance):
     """The line of a journal with another answer, or with another byte."""
-    if chance.below(3) == 0:
+    if chance.randrange(3) == 0:
         return with_other_byte(line, chance)
     asked, _, answer = line.partition(b" = ")
     others = [b"wait", b"lent", b"check", b"parked", b"kept", b"destroy", b"freed", b"nothing", b"count 1", b"make 1", b"take 0", b"refused closed"]
-    other = chance.one_of([word for word in others if word + b"\n" != answer])
+    other = chance.choice([word for word in others if word + b"\n" != answer])
     return asked + b" = " + other + b"\n"
 
 
 def life(name, seed):
     """A script with settings, and its journal with a wrong line."""
-    chance = Chance(seed)
+    chance = random.Random(seed)
     settings = settings_by_chance(chance)
     lines = script_by_chance(settings_of(settings.decode()), chance)
-    if chance.below(8) == 0:
-        at = chance.below(len(lines))
+    if chance.randrange(8) == 0:
+        at = chance.randrange(len(lines))
         lines[at] = with_other_byte(lines[at], chance)
     case = run_again(Case(name, settings=settings, rest=b"".join(lines), journal=b""))
     made = lines_of(case.journal)
     if not made:
         return case
-    at = chance.below(len(made))
+    at = chance.randrange(len(made))
     return remade(dataclasses.replace(case, changes=[(at + 1, at + 1, wrong_line(made[at], chance))], verdict=b""))
 
 
 def with_fault(segments, chance):
     """The segments as they are, mostly; or one is lost, repeated, exchanged with the next, or damaged."""
-    at, kind = chance.below(len(segments)), chance.below(9)
-    if kind == 0 and len(segments) > 1:
-        return segments[:at] + segments[at + 1 :]
-    if kind == 1:
-        return segments[: at + 1] + segments[at:]
-    if kind == 2:
-        return segments[:at] + segments[at : at + 2][::-1] + segments[at + 2 :]
-    if kind == 3 and segments[at]:
-        return segments[:at] + [with_other_byte(segments[at], chance)] + segments[at + 1 :]
-    return segments
+    at = chance.randrange(len(segments))
+    damaged = [*segments[:at], with_other_byte(segments[at] or b"\n", chance), *segments[at + 1 :]]
+    return chance.choice([segments] * 5 + [others for _, others in ways(segments, chance)] + [damaged])
 
 
 def cut_life(name, seed):
     """The segments of a journal. Some of the first ones begin with no base."""
-    chance = Chance(seed)
+    chance = random.Random(seed)
     settings = settings_by_chance(chance)
     read = settings_of(settings.decode())
     journal, _ = run(Pool(read), b"".join(script_by_chance(read, chance)), 0)
-    positions = {1 + chance.below(LONGEST) for _ in range(1 + chance.below(6))}
+    positions = {1 + chance.randrange(LONGEST) for _ in range(1 + chance.randrange(6))}
     segments = cut_at(read, journal, positions)
-    if chance.below(2):
+    if chance.randrange(2):
         segments[0] = segments[0].partition(b"\n")[2]
     return remade(Case(name, settings=settings, segments=[(text, b"") for text in with_fault(segments, chance)], verdict=b""))
 
 
 def any_settings(name, seed):
     """A settings file of up to five keys, most of them of settings, with any values."""
-    chance, keys, lines = Chance(seed), [*VALUES, *OF_ABANDONED, "testOnBorrow", "testOnCreate", "testOnReturn", "abandoned", "maxTotl", '""'], []
-    for _ in range(1 + chance.below(5)):
-        lines.append(f"{chance.one_of(keys)} = {chance.one_of(ANY_VALUES)}\n")
-        if chance.below(6) == 0:
+    chance, keys, lines = random.Random(seed), [*VALUES, *OF_ABANDONED, "testOnBorrow", "testOnCreate", "testOnReturn", "abandoned", "maxTotl", '""'], []
+    for _ in range(1 + chance.randrange(5)):
+        lines.append(f"{chance.choice(keys)} = {chance.choice(ANY_VALUES)}\n")
+        if chance.randrange(6) == 0:
             lines.append("[abandoned]\n")
     return remade(Case(name, settings="".join(lines).encode(), answer=b""))
 
 
 # The cases from seeds: what makes a case, the first seed, and the number of cases, each with the next seed.
-SEEDED = {"lives": (life, 800, 280), "segments": (cut_life, 2_300, 120), "settings": (any_settings, 4_000, 150)}
+SEEDED = {"lives": (life, 1_600, 280), "segments": (cut_life, 2_300, 120), "settings": (any_settings, 4_000, 150)}
 
 
 def seeded():
@@ -165,7 +162,7 @@ def settings_in(case):
     """The settings of a case that the program takes."""
     answer = answer_to_settings(case.settings)
     if answer != b"ok\n":
-        raise CaseError(f"{case.place}: the program does not take the settings: {answer.decode().strip()}")
+        sys.exit(f"{case.name}: the program does not take the settings: {answer.decode().strip()}")
     return settings_of(case.settings.decode())
 
 
@@ -184,7 +181,7 @@ def cut_again(case):
         script = b"".join(line.partition(b" = ")[0] + b"\n" for line in lines_of(text) if b" = " in line)
         journal, error = run(pool, script, pool.position)
         if error:
-            raise CaseError(f"{case.place}: the script of the segments ends with '{error.decode().strip()}'; change its settings or segments")
+            sys.exit(f"{case.name}: the script of the segments ends with '{error.decode().strip()}'; change its settings or segments")
         segments.append((base + journal, b""))
     return dataclasses.replace(case, segments=segments)
 
@@ -211,16 +208,21 @@ def files_made():
         yield path, written(heading, map(remade, cases))
 
 
+def checks():
+    """Each file of cases, with the first line of it and of the file as it is made, if these differ."""
+    for path, made in files_made():
+        pairs = itertools.zip_longest(path.read_text().splitlines(), made.splitlines())
+        yield str(path.relative_to(CASES)), *next((pair[::-1] for pair in pairs if pair[0] != pair[1]), ("", ""))
+
+
 def main():
-    try:
-        made = list(files_made())
-    except CaseError as error:
-        sys.exit(f"make_cases.py: {error}")
-    for path, text in made:
+    if sys.argv[1:] == ["--check"]:
+        return play_checks(checks())
+    for path, text in list(files_made()):
         if path.read_text() != text:
             path.write_text(text)
             print(path.relative_to(TOP))
 
 
 if __name__ == "__main__":
-    main()
+    sys.exit(main())

@@ -7,10 +7,11 @@
  *     play_c_pool soak PAIRS THREADS                    threads that borrow and return PAIRS times together, without a journal
  *     play_c_pool metrics PAIRS THREADS                 the same, while the metrics are read
  *
- * `sink` and `random` write the journal's segments to files of the folder, each named for its first position, and the settings to the file
- * `settings`. Settings that change go to a file `settings-POSITION`, with that of the first entry which they hold for. They print `steps N`, how many
- * entries there were; `sink` prints also how often `store` was called, and `random` a line `caller NUMBER lent N` for each thread. In `soak` the memory
- * of the process must not grow by more than a tenth, or SLACK bytes, after the first tenth of the pairs. `metrics` prints the texts of the metrics, the last one after all pairs. Exits with status 0; or with status 4 and a line on standard
+ * `sink` and `random` write the journal's segments to files `segment-POSITION` of the folder, and the settings to `settings.toml`. Settings that
+ * change go to a file `settings-POSITION.toml`, with that of the first entry which they hold for. They print `steps N`, how many entries there were;
+ * `sink` prints also how often `store` was called, and `random` a line `caller NUMBER lent N` for each thread. In `soak` the memory of the process
+ * must not grow by more than a tenth, or SLACK bytes, after the first tenth of the pairs. `metrics` prints the texts of the metrics, the last one
+ * after all pairs. Exits with status 0; or with status 4 and a line on standard
  * error that says what is wrong. */
 #define _POSIX_C_SOURCE 200809L
 
@@ -1268,7 +1269,7 @@ static bool store_segment(void *context, uint64_t first, const char *text, size_
   char name[32];
   while (atomic_load(&sink->is_held)) sleep_for(1);
   if (sink->fails_at < 0 || call == sink->fails_at) return false;
-  snprintf(name, sizeof name, "%020" PRIu64, first);
+  snprintf(name, sizeof name, "segment-%020" PRIu64, first);
   return !sink->folder || write_file(sink->folder, name, text, size);
 }
 
@@ -1285,7 +1286,7 @@ static struct zuphinka_pool *open_stored(struct maker *made, const char *setting
   }
   check_error(error, ZUPHINKA_POOL_ERROR_NONE);
   bool is_written = !folder;
-  for (int tries = 0; !is_written && tries < 1000; tries++) is_written = write_file(folder, "settings", settings, strlen(settings));
+  for (int tries = 0; !is_written && tries < 1000; tries++) is_written = write_file(folder, "settings.toml", settings, strlen(settings));
   check(is_written);
   return made->pool;
 }
@@ -3354,7 +3355,7 @@ static bool change_settings(struct table *table, int which) {
   enum zuphinka_pool_error error = zuphinka_pool_reconfigure(table->pool, settings, strlen(settings), store_segment, &maker, &first);
   check(is_expected(table, error));
   bool is_written = error || table->journal == ZUPHINKA_POOL_JOURNAL_OFF;
-  if (!error) snprintf(name, sizeof name, "settings-%020" PRIu64, first);
+  if (!error) snprintf(name, sizeof name, "settings-%020" PRIu64 ".toml", first);
   for (int tries = 0; !is_written && tries < 1000; tries++) is_written = write_file(maker.sink.folder, name, settings, strlen(settings));
   check(is_written);
   pthread_mutex_unlock(&table->changing);

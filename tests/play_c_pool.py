@@ -1,17 +1,16 @@
 """Tests the pool for threads in C, bindings/c/src/zuphinka_pool.c, by the program tests/play_c_pool.c.
 
-    play_c_pool.py LIBRARY POOL JUDGE
+    play_c_pool.py LIBRARY JUDGE
 
-LIBRARY is libzuphinka.a, as `rt lib` builds it, and POOL and JUDGE are the programs `pool` and `judge`. The C compiler that CC names, or cc, compiles
+LIBRARY is libzuphinka.a, as `rt lib` builds it, and JUDGE is the program `judge`. The C compiler that CC names, or cc, compiles
 the pool with the program, with warnings as errors. The header must compile by itself as C99, C11 and C++ too, with more warnings, and each of its codes
 is named after its enum.
 
 - Each test of the program must pass.
 - A pool whose `store` fails at each call in turn must store its whole journal in the end.
 - With SEEDS seeds, THREADS threads call a pool at random over callbacks that fail at random. No two threads have an object at once, a loan that has
-  ended takes none, no more objects exist than maxTotal allows, and none is left; the program `pool` must judge the journal legal, whatever segments
-  it has; it must have each loan that the threads counted; and all journals together must have each answer. The settings of some pools change meanwhile:
-  `judge` must judge each segment legal with its own, and each must begin with the base that the one before it reached.
+  ended takes none, no more objects exist than maxTotal allows, and none is left; `judge` must judge the journal legal, whatever segments it has, and with
+  the settings that some pools change meanwhile; it must have each loan that the threads counted; and all journals together must have each answer.
 - A pool without a journal lends SOAKED times to THREADS threads, in memory that does not grow.
 - While THREADS threads borrow MEASURED times, each text of its metrics is in the format, and in the end their sums are right (tests/openmetrics.py).
 - bindings/c/examples/shared_life.c must write the segments of a legal journal, with SHARED_ROUNDS loans for each thread. A second run over the same
@@ -27,10 +26,8 @@ import collections
 import os
 import pathlib
 import re
-import subprocess
 import sys
 
-import changed_settings
 import openmetrics
 from play_library import INCLUDE, TOP, VALGRIND, compiled, compiler, header_runs
 from playing import differing, has, preloaded, run, scratch, side_by_side, skip, tell
@@ -58,17 +55,16 @@ def built(library, folder, *flags):
 
 def has_tsan(folder):
     """Returns whether the compiler builds programs with ThreadSanitizer that run."""
-    source, program = folder / "empty.c", folder / "empty"
-    source.write_text("int main(void) { return 0; }\n")
-    words = [compiler(), "-fsanitize=thread", "-pthread", "-o", program, source]
-    return subprocess.run(words, capture_output=True).returncode == 0 and subprocess.run([program], capture_output=True).returncode == 0
+    program = folder / "empty"
+    words = compiler(), "-fsanitize=thread", "-pthread", "-o", program, "-x", "c", "-"
+    return run(*words, input=b"int main(void) { return 0; }\n").returncode == 0 and run(program).returncode == 0
 
 
 class Runs:
     """The runs of one build of the program, perhaps under another program or with a library that is loaded before."""
 
-    def __init__(self, name, words, pool, judge, environment=None):
-        self.name, self.words, self.pool, self.judge, self.environment = name, words, pool, judge, environment
+    def __init__(self, name, words, judge, environment=None):
+        self.name, self.words, self.judge, self.environment = name, words, judge, environment
         self.answers = set()
 
     def run(self, *words):
@@ -80,15 +76,11 @@ class Runs:
 
     def judged(self, name, folder, steps):
         """The journal that was written to a folder, and what differs where it is judged."""
-        paths = sorted(path for path in folder.iterdir() if not path.name.startswith("settings"))
-        journal = b"".join(path.read_bytes() for path in paths)
+        journal = b"".join(path.read_bytes() for path in sorted(folder.glob("segment-*")))
         self.answers |= set(ANSWER.findall(journal))
         if not steps:
-            return journal, [f"{name}: segments of a journal that is dropped"] if paths else []
-        if any(folder.glob("settings-*")):
-            fault, found = changed_settings.judged(self.judge, folder)
-            return journal, [f"{name}: {fault or found} of {steps} entries"] * (found != steps)
-        return journal, differing(f"{name}, judged", (b"legal %d\n" % steps, b"", 0), run(self.pool, "check", folder / "settings", *paths))
+            return journal, [f"{name}: segments of a journal that is dropped"] if journal else []
+        return journal, differing(f"{name}, judged", (b"legal %d\n" % steps, b"", 0), run(self.judge, folder))
 
     def told(self, name, *words):
         """Runs the program over a folder: what it printed, as pairs of words and a number, the journal, and what differs."""
@@ -119,6 +111,8 @@ class Runs:
     def metrics(self):
         """What differs in the metrics that are read while threads borrow."""
         done = self.run("metrics", str(MEASURED), str(THREADS))
+        if not openmetrics.is_read("the metrics of the C pool"):
+            return differing(f"{self.name}, metrics", (done.stdout, b"", 0), done)
         texts = openmetrics.texts_of(done.stdout.decode())
         fault = openmetrics.fault_of(openmetrics.check_course, texts, MEASURED) or f"{len(texts)} texts" * (len(texts) <= 2)
         return differing(f"{self.name}, metrics", (done.stdout, b"", 0), done) + [f"{self.name}, metrics: {fault}"] * bool(fault)
@@ -126,17 +120,18 @@ class Runs:
     def shared(self, program):
         """What differs where the example lends connections to threads."""
         with scratch() as folder:
-            (folder / "settings").write_text("journalLimit = 1000\n")
+            settings = folder / "settings.toml"
+            settings.write_text("journalLimit = 1000\n")
             name = "shared_life"
-            found = differing(name, (b"", b"", 0), run(program, folder / "settings", folder, str(THREADS), str(SHARED_ROUNDS)))
+            found = differing(name, (b"", b"", 0), run(program, settings, folder, str(THREADS), str(SHARED_ROUNDS)))
             journal = b"".join(path.read_bytes() for path in sorted(folder.glob("segment-*")))
             wanted = [SHARED_ROUNDS] * THREADS
             lent = list(collections.Counter(LENT.findall(journal)).values())
             found += [f"{name}: the journal has {lent} loans for its threads"] * (lent != wanted)
             # A process of its number crashed while its last segment had two names.
             crashed = ["sh", "-c", 'ln "$0" "$3/unfinished-$$" && exec "$@"', max(folder.glob("segment-*"))]
-            again = run(*crashed, program, folder / "settings", folder, "1", str(SHARED_ROUNDS))
-            left = b"".join(path.read_bytes() for path in sorted(folder.iterdir()) if path.name != "settings")
+            again = run(*crashed, program, settings, folder, "1", str(SHARED_ROUNDS))
+            left = b"".join(path.read_bytes() for path in sorted(folder.iterdir()) if path != settings)
             is_refused = again.returncode == 1 and left == journal
             found += [f"{name}: a second run replaces segments, or leaves more files"] * (not is_refused)
             return found + self.judged(name, folder, journal.count(b" = "))[1]
@@ -171,7 +166,7 @@ def refused(plain, refuse, folder, seed):
     """What differs in a run in which allocations fail."""
     mark = folder / f"refused_{seed}"
     changes = {"REFUSE_OF": str(REFUSE_OF), "REFUSE_SEED": str(seed), "REFUSED": str(mark), "LD_PRELOAD": str(refuse)}
-    runs = Runs("allocations that fail", plain.words, plain.pool, plain.judge, os.environ | changes)
+    runs = Runs("allocations that fail", plain.words, plain.judge, os.environ | changes)
     return runs.random(seed, THREADS, CALLS) + [f"{runs.name}, seed {seed}: no allocation failed"] * (not mark.exists())
 
 
@@ -182,15 +177,15 @@ def all_calls(plain, library, folder, watches):
     few = range(1, FEW_SEEDS + 1)
     calls = [(plain.test, name) for name in names] + [(plain.random, seed, THREADS, CALLS) for seed in range(1, SEEDS + 1)]
     for name, flags, before, threads in watches:
-        runs = Runs(name, [*before, built(library, folder / name, *flags)], plain.pool, plain.judge)
+        runs = Runs(name, [*before, built(library, folder / name, *flags)], plain.judge)
         calls += [(runs.test, name) for name in names] + [(runs.random, seed, threads, FEW_CALLS) for seed in few]
     return calls + [(refused, plain, refuse, folder, seed) for seed in few]
 
 
-def found(library, programs, folder):
+def found(library, judge, folder):
     """What differs in each run."""
     yield from header_differing(folder)
-    plain = Runs("plain", [built(library, folder)], *(str(pathlib.Path(program).resolve()) for program in programs))
+    plain = Runs("plain", [built(library, folder)], str(pathlib.Path(judge).resolve()))
     calls = all_calls(plain, library, folder, list(tools(folder)))
     yield from side_by_side(lambda call: call[0](*call[1:]), calls)
     shared = compiled("shared_life", library, folder, ["-pthread", POOL])
@@ -199,9 +194,9 @@ def found(library, programs, folder):
     yield [f"no journal has {sorted(missing)}"] * bool(missing)
 
 
-def main(library, *programs):
+def main(library, judge):
     with scratch() as folder:
-        return tell(found(library, programs, folder), SEEDS)
+        return tell(found(library, judge, folder), SEEDS)
 
 
 if __name__ == "__main__":

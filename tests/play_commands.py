@@ -6,25 +6,24 @@ Both are programs. The last line is 'N passed, M failed'.
 
 A block is what a page indents by four spaces, and the man page's section of examples. Each must be of commands, which are run one after the
 other with the repository's examples at hand, or as one where they have a loop; the lines of a journal, which must be legal with the default
-settings, cut into segments or not; the form of a line; or the line of `rt version` of a kit with the logic of this one, which may also be in a sentence.
+settings, cut into segments or not; the form of a line; or the line of `rt version`. Each logic of a kit that a page names must be that of this one.
 The command ./check is not run, since it runs this, nor is tools/build.py, also not by make, since it has built the programs: there must be such a
 crate or binding.
 Java's commands are run by play_java.py. What ./try does with the program without its proofs is done here by the program. Blocks between fences are not
-run: check_pages.py holds them against the sources, and looks at names. Cargo's commands are skipped if no cargo runs. What the commands leave behind must be
-ignored by git: each file or folder has a line of its own in .gitignore.
+run: check_pages.py holds them against the sources, and looks at names. Cargo's commands are skipped if no cargo runs.
 
 The examples that docs/settings.md names are played, and must have the journal lines that it shows. The pictures in docs/pictures must be those of
-the journals: each under the name of its settings, the overview of the journal that tests/sample_journal.py writes, and that of leak.journal there.
+the journals: each under the name of its settings, and those of leak.journal and overview.journal there.
 """
 
-import functools
+import lzma
 import pathlib
 import re
 import sys
 
 from playing import NO_CARGO, TOP, has, play_checks, run, scratch, skip
-from sample_journal import Sample
 
+import sources
 from contest import runs_cargo
 
 PICTURES = TOP / "docs/pictures"
@@ -37,11 +36,8 @@ COMMAND = re.compile(
 ENTRY = re.compile(r"\d+ \d+ .* = ")
 BASE = re.compile(r"pool-journal 2 |\d+ (readying|adding|lent|returning|idle|testing|destroying) ")
 FORM = "<caller> <at> <input>"
-KIT = re.compile(r"rattle-kit-\S+ logic ([0-9a-f]+)")
-# The checksum of its logic in a sentence.
-LOGIC_IN_PROSE = re.compile(r"`(logic [0-9a-f]+)`")
-# The names at the top that git ignores.
-IGNORED = {line.strip("/") for line in (TOP / ".gitignore").read_text().splitlines() if line.startswith("/")}
+# The line of a kit, which may have any name, and the checksum of its logic, also in a sentence.
+KIT, LOGIC = "rattle-kit-", re.compile(r"\blogic [0-9a-f]{8,}")
 
 
 def blocks(page):
@@ -104,17 +100,12 @@ class Place:
                 yield from ((line, self.fault_of_command(line)) for line in commands(block))
             elif all(ENTRY.match(line) or BASE.match(line) for line in block):
                 shown += block
-            elif block != [FORM] and not (len(block) == 1 and is_kit(block[0])):
+            elif block != [FORM] and not block[0].startswith(KIT):
                 yield block[0], "neither a command nor a journal"
-        for logic in LOGIC_IN_PROSE.findall(page.read_text()):
-            yield logic, None if is_kit(f"rattle-kit-0 {logic}") else "another kit than this machine's"
-        yield "what git does not ignore", ", ".join(sorted(self.left() - IGNORED)) or None
+        for logic in LOGIC.findall(page.read_text()):
+            yield logic, None if (sources.kit() or "").endswith(logic) else "another kit than this machine's"
         for segments in journals(shown):
             yield segments[0][0], self.fault_of_journal(segments)
-
-    def left(self):
-        """The names of what the commands left behind."""
-        return {path.name for path in self.folder.iterdir() if not path.is_symlink()}
 
 
 def journals(lines):
@@ -127,17 +118,6 @@ def journals(lines):
             found[-1].append([])
         found[-1][-1].append(line)
     return found
-
-
-def is_kit(line):
-    """Whether a line is that of `rt version` of a kit, of any name, whose logic has the checksum of this machine's."""
-    here, there = KIT.fullmatch(kit()), KIT.fullmatch(line)
-    return bool(here and there) and here[1] == there[1]
-
-
-@functools.cache
-def kit():
-    return run("rt", "version", text=True).stdout.strip()
 
 
 def is_drawn(picture, name, journal):
@@ -156,8 +136,8 @@ def examples(pool, picture):
         yield f"the lines of {settings} on {script}", (True, []), (lines != [], [line for line in lines if line not in done.stdout.splitlines()])
         if (PICTURES / f"{name}.svg").exists():
             yield f"docs/pictures/{name}.svg is drawn of {settings}", True, is_drawn(picture, name, done.stdout)
-    yield "docs/pictures/overview.svg is drawn of tests/sample_journal.py", True, is_drawn(picture, "overview", Sample().play())
-    yield "docs/pictures/leak.svg is drawn of leak.journal", True, is_drawn(picture, "leak", (PICTURES / "leak.journal").read_bytes())
+    for name, journal in ("leak", (PICTURES / "leak.journal").read_bytes()), ("overview", lzma.decompress((PICTURES / "overview.journal.xz").read_bytes())):
+        yield f"docs/pictures/{name}.svg is drawn of its journal", True, is_drawn(picture, name, journal)
     files = {f"examples/{path.name}" for path in (TOP / "examples").iterdir()}
     yield "examples that docs/settings.md doesn't name", set(), files - named
 

@@ -4,7 +4,7 @@
     play_commons_pool.py --fetch
 
 LIBRARY is libzuphinka.a, and JUDGE is the program `judge`. COMMONS_POOL2_SOURCE names the folder with the source of Commons Pool 2 of the
-version that is installed. Else Debian's archive of it is downloaded, unless --fetch has stored it in the folder out. The tests run in several virtual
+version that is installed. Else it is that of Debian's archive, which --fetch stores in the folder out. The tests run in several virtual
 machines, over the GenericObjectPool of bindings/java/commons-pool2, which comes before the library's and passes each call on. A test that does not
 end as the page says runs again, alone, up to twice.
 
@@ -18,8 +18,6 @@ Prints what fails, and in the end the line 'N passed, M failed'.
 import collections
 import contextlib
 import hashlib
-import http.client
-import io
 import itertools
 import os
 import pathlib
@@ -105,44 +103,30 @@ def jars():
     """The jars that the tests need besides Commons Pool 2, which has the version of the tests."""
     if commons_pool_version() != VERSION:
         raise java.Missing(f"{java.commons_pool()} is not version {VERSION} of Commons Pool 2, whose tests these are")
+    if not SOURCE and not FETCHED.is_file():
+        raise java.Missing(f"no {FETCHED}: tests/play_commons_pool.py --fetch downloads it; COMMONS_POOL2_SOURCE names a folder that has the source")
     for name, package in JARS.items():
         if not (java.DEBIAN_JAR.parent / f"{name}.jar").is_file():
             raise java.Missing(f"no {name}.jar: Debian's package {package} has it")
     return [java.DEBIAN_JAR.parent / f"{name}.jar" for name in JARS]
 
 
-def archive():
-    """Returns the archive: the stored one, or else one that is downloaded."""
-    if FETCHED.is_file() and hashlib.sha256(FETCHED.read_bytes()).hexdigest() == CHECKSUM:
-        return FETCHED.read_bytes()
-    try:
-        with urllib.request.urlopen(ARCHIVE, timeout=30) as reply:
-            packed = reply.read()
-    except (OSError, http.client.HTTPException) as error:
-        raise java.Missing(f"no source of Commons Pool 2: {ARCHIVE}: {error}; COMMONS_POOL2_SOURCE names a folder that has it") from error
+def fetch():
+    """Stores the archive, unless another source is named."""
+    if SOURCE:
+        return
+    with urllib.request.urlopen(ARCHIVE, timeout=30) as reply:
+        packed = reply.read()
     checksum = hashlib.sha256(packed).hexdigest()
     if checksum != CHECKSUM:
-        sys.exit(f"{ARCHIVE}: wanted the checksum {CHECKSUM}, got {checksum}\n0 passed, 1 failed")
-    return packed
-
-
-def fetch():
-    """Stores the archive, unless another source is named. Returns the status to end with."""
-    if SOURCE:
-        return 0
-    try:
-        packed = archive()
-    except java.Missing as missing:
-        print(missing, file=sys.stderr)
-        return 1
+        sys.exit(f"{ARCHIVE}: wanted the checksum {CHECKSUM}, got {checksum}")
     FETCHED.parent.mkdir(exist_ok=True)
     FETCHED.write_bytes(packed)
-    return 0
 
 
 def unpacked(to):
     """Unpacks the tests of the archive, and returns the folder of the source."""
-    with tarfile.open(fileobj=io.BytesIO(archive())) as members:
+    with tarfile.open(FETCHED) as members:
         members.extractall(to, [member for member in members if "/src/test/" in member.name])
     return next(to.glob("*/src/test")).parent.parent
 

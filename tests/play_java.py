@@ -166,6 +166,8 @@ def played(name, jar, classes, pool, place, **options):
 
 def measures(place):
     """What is wanted of the metrics, and what they are."""
+    if not openmetrics.is_read("the metrics in Java"):
+        return
     course = openmetrics.texts_of((place / "course").read_text())
     yield "measures: texts in their course", True, len(course) > 2 or len(course)
     yield "measures: their course", "", openmetrics.fault_of(openmetrics.check_course, course, MEASURED)
@@ -263,18 +265,6 @@ def portable(jar):
     yield "what the native library loads", {"linux-vdso.so.1", "libc.so.6", "ld-linux-x86-64.so.2"}, names
 
 
-def undocumented(source):
-    """The public and protected items of a source that have no documentation of their own, as those that override another have it."""
-    lines = source.read_text().splitlines()
-    for number, line in enumerate(lines):
-        if re.match(r"(?:    )?(?:public|protected) ", line):
-            before = number - 1
-            while lines[before].strip().startswith("@"):
-                before -= 1
-            if not lines[before].endswith("*/"):
-                yield f"{source.stem}: {line.strip()}"
-
-
 def documentation(folder):
     """What is wanted of the documentation of both jars' classes, and what is wrong with it by javac."""
     sources = sorted(path for place in (java.JAVA, java.DROP_IN) for path in (place / "src").rglob("*.java"))
@@ -282,9 +272,6 @@ def documentation(folder):
     words += ["-cp", java.commons_pool(), *sources]
     done = playing.run(java.jdk() / "bin/javac", *words, text=True)
     yield "the documentation", ("", 0), (done.stderr, done.returncode)
-    public = [source for source in sources if re.search(r"^public ", source.read_text(), flags=re.MULTILINE)]
-    yield "sources with public items", True, bool(public)
-    yield "items without documentation", [], [item for source in public for item in undocumented(source)]
 
 
 def example(name, report, pool, folder):

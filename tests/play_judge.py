@@ -1,6 +1,6 @@
 """Judges segments of journals by themselves, in any order, and joins what was found, as many machines would; and all that are in a folder.
 
-    play_judge.py JUDGE POOL CASES..
+    play_judge.py JUDGE CASES..
 
 `JUDGE SETTINGS SEGMENT` must write the lines of the base that a segment reaches, with status 0, or nothing, with another status. The
 segments of a journal are one legal journal where each is legal by itself, the first begins at the base before all entries, and each begins
@@ -10,15 +10,10 @@ with the lines that were written of the one before it.
   says so; where it does, what is written of each must be the lines of the next one's base. `JUDGE --join` must say the same, and
   `JUDGE FOLDER` the verdict, with the segment that has the error.
 - Three segments are damaged: in each place a byte is changed, dropped or doubled. Joined, they must be legal exactly where those of
-  tests/pool_model.py are, whose verdict `JUDGE FOLDER` must give. tests/play_segments.py has `POOL check` over the same.
-- The inputs of each case with a legal verdict are answered anew by tests/pool_model.py, whose settings change in the middle: from there on there is one
-  place, or none, which the objects may exceed. Each segment must be legal with its own settings, and reach the next one's base. `JUDGE FOLDER` must find
-  them legal, and `POOL check` answer as the model with the first settings for both.
+  tests/pool_model.py are, whose verdict `JUDGE FOLDER` must give. tests/play_segments.py has `pool check` over the same.
 - New settings that leave no room for outstanding entries, or are none, have their lines; so have folders that lack something. In a folder with a folder
   for each start each is judged.
 - `JUDGE --held` must list the objects that are held at the end, by the names and with the times of day that the folder has.
-- The commands of docs/journal.md that check segments and join them are run on these: they must find them legal where the verdict does.
-  The command for GNU parallel is run here for each segment, and so is the array job for each of its tasks.
 - Other arguments, requests for help or the version, and files that cannot be opened, read or taken, must have the line, which names the file,
   and the status that crates/judge/specs/Messages.antt says.
 - Segments that another one follows are judged once for each allocation, which is refused then, and so are folders, joins and lists: nothing is written, the
@@ -28,17 +23,15 @@ Prints what differs, and in the end the line 'N passed, M failed'.
 """
 
 import itertools
-import pathlib
+import random
 import re
 import sys
 
 from argument_rules import version
-from case_files import unpacked, wanted_of
-from play_commands import TOP, blocks, commands
-from play_damaged import Chance
+from case_files import unpacked
 from play_segments import EMPTY, THREE, damaged_segments, play_trials, segmented
 from playing import differing, ended, preloaded, refusals, run, scratch, write_files
-from pool_model import LineFault, Pool, read_entry, settings_of, verdict_of_segments, words_of
+from pool_model import settings_of, verdict_of_segments
 
 
 def base_lines(segment):
@@ -61,7 +54,7 @@ def are_joined(segments, reached):
 def reached_by(judge, settings, paths, chance):
     """What is written of each segment, judged in an order by chance, and nothing where it isn't legal."""
     reached = [None] * len(paths)
-    for index in sorted(range(len(paths)), key=lambda _: chance.below(2**32)):
+    for index in chance.sample(range(len(paths)), len(paths)):
         written, told, status = ended(run(judge, settings, paths[index]))
         if (status == 0) != (told == b"") or (status and written):
             raise ValueError(f"{paths[index]}: status {status}, wrote {written}, told {told}")
@@ -111,27 +104,6 @@ def of_folder(judge, name, room, paths, segments, verdict):
     return differing(f"{name}, in a folder", (verdict + b"\n", told, 1), run(judge, room))
 
 
-def of_change(judge, program, case, places):
-    """What differs where the settings change in the middle of a case, after which there are so many places."""
-    pool = Pool(settings_of(case.settings.decode()))
-    requests = [request for text in texts_of(case) for request in text.removeprefix(base_lines(text)).splitlines()]
-    middle = len(requests) // 2
-    before = EMPTY + answered(pool, requests[:middle])
-    pool.settings = pool.settings | {"maxTotal": places}
-    due, position = b"".join(pool.base()), pool.position
-    after = due + answered(pool, requests[middle:])
-    changed = b"maxTotal = %d\n" % places + re.sub(rb"^maxTotal = .*$", b"", case.settings, flags=re.MULTILINE)
-    first, second = "segment-" + "0" * 20, f"segment-{position:020}"
-    with scratch() as room:
-        rules, later = write_files(room, {"settings.toml": case.settings, f"settings-{position:020}.toml": changed})
-        paths = write_files(room, {first: before, second: after})
-        reached = [run(judge, settings, path).stdout for settings, path in zip((rules, later), paths)]
-        found = [f"{case.name}, whose settings change: reached {reached}"] * (reached != [due, b"".join(pool.base())])
-        found += differing(f"{case.name}, checked with both settings", (b"legal %d\n" % pool.position, b"", 0), run(judge, room))
-        wanted = wanted_of(verdict_of_segments(settings_of(case.settings.decode()), [before, after]))
-        return found + differing(f"{case.name}, checked with the first settings", wanted, run(program, "check", rules, *paths))
-
-
 # Later settings of a segment, before which an object is being made: what is written, and what is told of the file with the error.
 LATER = {
     b"maxTotal = 0\n": (b"legal 2\n", "", 0),
@@ -142,9 +114,8 @@ LATER = {
 
 
 def of_later(judge):
-    pool = Pool(settings_of(""))
-    first = EMPTY + answered(pool, [b"0 1 borrow 1 = make 0"])
-    second = b"".join(pool.base()) + answered(pool, [b"0 2 ready 0 good = lent"])
+    first = EMPTY + b"0 1 borrow 1 = make 0\n"
+    second = b"pool-journal 2 1 1 open none 0 0 0 1\n0 readying 0 0 0 0 new\n0 2 ready 0 good = lent\n"
     found = []
     with scratch() as room:
         write_files(room, {"settings.toml": b"", "segment-0": first, "segment-1": second})
@@ -217,54 +188,6 @@ def of_held(judge):
         found += differing("no time of day", line_of(room, "no time of day in start.toml"), run(judge, "--held", room))
         write_files(later, {"segment-0": THREE[0] + b"x\n"})
         return found + differing("no journal", line_of(later / "segment-0", "line 6: not a line"), run(judge, "--held", later))
-
-
-def answered(pool, requests):
-    """The entries of these inputs, with the answers of the pool, as many as its journal has room for."""
-    first, lines = pool.position, []
-    for request in requests:
-        at, asked, *_ = read_entry(request + b"\n", 0)
-        try:
-            pool.copy().take(at, asked, first)
-        except LineFault:
-            break
-        lines.append(request.partition(b" = ")[0] + b" = " + words_of(pool.take(at, asked, first)) + b"\n")
-    return b"".join(lines)
-
-
-def shell_of_page():
-    """The shell commands that the page shows for other programs: for GNU parallel, and for a cluster."""
-    return re.findall(r"^```sh\n(.*?)^```$", (TOP / "docs/journal.md").read_text(), flags=re.MULTILINE | re.DOTALL)
-
-
-def scripts_of_page():
-    """The page's ways to check all segments, each with its join: by processes, by the command for GNU parallel, and by the array job; and that job."""
-    page = TOP / "docs/journal.md"
-    shown = [command for block in blocks(page) for command in commands(block)]
-    made, processes, join = shown[shown.index("mkdir reached") :][:3]
-    parallel, job = shell_of_page()
-    there = parallel.split("'")[1].replace("{/}", "${segment##*/}").replace("{}", "$segment")
-    task = "SLURM_ARRAY_TASK_ID=$((task += 1)) sh judge.job"
-    by_parallel = [f"for segment in archived/segment-*; do {there}; done"]
-    by_tasks = ["ls archived/segment-* > segments", f"for segment in archived/segment-*; do {task}; done"]
-    return ["\n".join([made, *way, join]) for way in ([processes], by_parallel, by_tasks)], job
-
-
-def of_commands(judge, script, job, case):
-    """Checks and joins segments by the page's commands."""
-    with scratch() as room:
-        for made in ("archived", "crates/judge/out"):
-            (room / made).mkdir(parents=True)
-        for place in ("crates/judge/out/judge", "judge"):
-            (room / place).symlink_to(pathlib.Path(judge).resolve())
-        (room / "judge.job").write_text(job)
-        (room / "archived/archive.toml").write_bytes(case.settings)
-        for index, text in enumerate(texts_of(case)):
-            (room / f"archived/segment-{index:04}").write_bytes(text)
-        done = run("bash", "-c", script, cwd=room)
-    wanted = b"one legal journal\n" if is_legal(case) else b"not legal from archived/segment-"
-    is_right = (done.returncode == 0) == is_legal(case) and done.stdout.startswith(wanted)
-    return [f"{case.name}, by the commands of the page: legal is {is_legal(case)}, {done}"] * (not is_right)
 
 
 # Files by their names: what `judge FILE segment` prints of those that give no settings, ..
@@ -374,16 +297,12 @@ def refused(judge, room):
     yield [judge, "--held", room / "starts"], rows
 
 
-def trials(judge, pool, cases, defaults, room):
+def trials(judge, cases, defaults, room):
     """All trials: each a function and its arguments."""
-    chance, (scripts, job), (library, marks) = Chance(5), scripts_of_page(), (preloaded("refuse", room), itertools.count())
-    for number, (case, settings, paths) in enumerate(cases):
-        yield of_case, judge, case, chance
-        if is_legal(case) and sum(text.count(b" = ") for text in texts_of(case)) > 1:
-            yield of_change, judge, pool, case, 1 - number % 2
-        yield from ((of_commands, judge, script, job, case) for script in scripts)
+    chance, (library, marks) = random.Random(5), (preloaded("refuse", room), itertools.count())
+    yield from ((of_case, judge, case, chance) for case, _, _ in cases)
     for name, segments in damaged_segments():
-        yield of_segments, judge, name, b"", segments, verdict_of_segments(settings_of(""), segments), Chance(len(name))
+        yield of_segments, judge, name, b"", segments, verdict_of_segments(settings_of(""), segments), random.Random(len(name))
     yield from [(of_later, judge), (of_starts, judge), (of_held, judge), (of_uses, judge, defaults), (of_pipe, judge, defaults), (of_damaged, judge)]
     # The segments that another one follows, of the legal journals among the first twelve.
     for case, settings, paths in cases[:12]:
@@ -394,10 +313,10 @@ def trials(judge, pool, cases, defaults, room):
         yield of_refused, command, wanted, library, room / f"refused-{next(marks)}"
 
 
-def main(judge, pool, *words):
+def main(judge, *words):
     with scratch() as room:
         cases, (defaults,) = list(segmented(unpacked(room, *words))), write_files(room, {"defaults.toml": b""})
-        return play_trials(list(trials(judge, pool, cases, defaults, room)))
+        return play_trials(list(trials(judge, cases, defaults, room)))
 
 
 if __name__ == "__main__":

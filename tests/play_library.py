@@ -138,44 +138,32 @@ def long_differing(life, pool, before, rounds):
         return found + differing("long_life, judged", (b"legal %d\n" % (4 * rounds + 4), b"", 0), run(pool, "check", settings, *paths))
 
 
-def told_by_crowd(words):
-    """The numbers that tests/crowd.c prints, or `None`, and what differs from a run without a fault."""
+def crowd_of(*words):
+    """The numbers that tests/crowd.c prints, or none if it fails, and what came of it."""
     done = run(*words)
-    found = CROWD_TEXT.fullmatch(done.stdout)
-    name = " ".join(map(str, words[-3:]))
-    return (list(map(int, found.groups())) if found else None), differing(name, (done.stdout if found else b"numbers", b"", 0), done)
+    found = CROWD_TEXT.fullmatch(done.stdout) if (done.stderr, done.returncode) == (b"", 0) else None
+    return list(map(int, found.groups())) if found else [0] * 6, f"{words[-2:]}: {done}"
 
 
-def unrefused_crowd(crowd, size):
-    """How many allocations the borrows of a crowd take, and what differs where none is refused."""
-    numbers, differs = told_by_crowd([crowd, str(size), "0"])
-    if differs:
-        return 0, differs
-    waits, ended, waited, first, served, by_pairs = numbers
+def is_served(size, waits, ended, waited, first, served, by_pairs):
+    """Whether all of a crowd's borrows waited, and lists took memory as they doubled: at most as often as their lengths have bits."""
     lists = 1 if size <= TICKETS else 3  # the calls in progress; and the tickets, in two lists
-    # A list doubles at most as often as its length has bits.
-    bounds = {"those that wait": (waits, size, size), "those that ended": (ended, 0, 0), "allocations": (waited, 1, lists * size.bit_length() + 2)}
-    bounds["allocations of the first"] = first, 0, TICKETS.bit_length() + 2
-    bounds["allocations after the borrows"] = served + by_pairs, 1, (4 * (size + 1_000)).bit_length() + 2
-    return waited, [f"crowd {size}: {what}: {number}, not {least} to {most}" for what, (number, least, most) in bounds.items() if not least <= number <= most]
-
-
-def refused_in_crowd(words, size, refused):
-    """What differs where one allocation of a crowd's borrows is refused."""
-    numbers, differs = told_by_crowd([*words, str(size), str(refused)])
-    if not differs and numbers[:2] != [size - 1, 1]:
-        differs = [f"crowd {size}, with allocation {refused} refused: {numbers[0]} wait, {numbers[1]} ended"]
-    return differs
+    has_few = 1 <= waited <= lists * size.bit_length() + 2 and first <= TICKETS.bit_length() + 2
+    return (waits, ended) == (size, 0) and has_few and 1 <= served + by_pairs <= (4 * (size + 1_000)).bit_length() + 2
 
 
 def crowds(crowd):
-    """What differs in each crowd."""
+    """What differs in each crowd, and where one allocation of its borrows is refused."""
+    runs = []
     for size in CROWDS:
-        allocations, differs = unrefused_crowd(crowd, size)
-        yield differs
-        yield from (refused_in_crowd([crowd], size, refused) for refused in range(1, allocations + 1))
+        numbers, told = crowd_of(crowd, str(size), "0")
+        yield [told] * (not is_served(size, *numbers))
+        runs += [([crowd], size, refused) for refused in range(1, numbers[2] + 1)]
     if has("a crowd under valgrind", "valgrind"):
-        yield refused_in_crowd([*VALGRIND, crowd], CROWDS[0], 2)
+        runs.append(([*VALGRIND, crowd], CROWDS[0], 2))
+    for words, size, refused in runs:
+        numbers, told = crowd_of(*words, str(size), str(refused))
+        yield [told] * (numbers[:2] != [size - 1, 1])
 
 
 def refusals(play, case):

@@ -1,4 +1,4 @@
-"""Plays lines that are none of the format, and a journal that is cut off or changed at each of its bytes, and compares what is told of them.
+"""Plays lines that are none of the format, and a journal that is cut off at each of its bytes, and compares what is told of them.
 
     play_lines.py POOL
 
@@ -116,10 +116,6 @@ def cases():
         lines = text.count(b"\n")
         is_whole = count in (0, 24, 49, 71, 97)
         yield ["check", "defaults"], text, (b"legal %d\n" % lines, b"", 0) if is_whole else told_of(lines + 1, "truncated")
-    # A journal with an x in the place of each byte. No line of it has an x.
-    for at in range(len(PLAIN_LIFE)):
-        what = "truncated" if at == 96 else "not a line"
-        yield ["check", "defaults"], PLAIN_LIFE[:at] + b"x" + PLAIN_LIFE[at + 1 :], told_of(1 + PLAIN_LIFE[:at].count(b"\n"), what)
 
 
 def main(pool):

@@ -80,14 +80,8 @@ def same_jar(name, made, wanted):
     files, others = files_of(made), files_of(wanted)
     manifest, other = manifest_of(files), manifest_of(others)
     yield f"{name}: the manifest", other, {key: value for key, value in manifest.items() if key not in ABOUT_MAVEN}
-    place = f"{DESCRIPTION}{name}/"
-    described = {path: files.pop(path) for path in sorted(files) if path.startswith(DESCRIPTION)}
-    yield f"{name}: the description", [place + "pom.properties", place + "pom.xml"], list(described)
-    properties = dict(re.findall(r"^(\w+)=(.*)$", described.get(place + "pom.properties", b"").decode(), flags=re.MULTILINE))
-    yield f"{name}: the coordinates", {"groupId": "io.github.zuphinka", "artifactId": name, "version": version()}, properties
-    yield f"{name}: the files", sorted(others), sorted(files)
+    yield f"{name}: the files", sorted(others), sorted(path for path in files if not path.startswith(DESCRIPTION))
     yield f"{name}: files that differ", [], [path for path in others if files.get(path) != others[path]]
-    yield f"{name}: it has classes", True, any(path.endswith(".class") for path in files)
 
 
 def other_jars(name, folder, source):
@@ -95,10 +89,9 @@ def other_jars(name, folder, source):
     sources = {path.relative_to(source).as_posix(): path.read_bytes() for path in source.rglob("*.java")}
     packed = files_of(folder / f"{name}-{version()}-sources.jar")
     yield f"{name}: the sources", sources, {path: text for path, text in packed.items() if path.endswith(".java")}
+    public = {path.replace(".java", ".html") for path, text in sources.items() if re.search(rb"^public ", text, flags=re.MULTILINE)}
     found = {path.removeprefix("io.github.zuphinka/") for path in files_of(folder / f"{name}-{version()}-javadoc.jar")}
-    public = [path for path, text in sources.items() if re.search(rb"^public ", text, flags=re.MULTILINE)]
-    yield f"{name}: public classes without a page", [], [path for path in public if path.removesuffix(".java") + ".html" not in found]
-    yield f"{name}: there are public classes", True, bool(public)
+    yield f"{name}: public classes without a page", (True, set()), (bool(public), public - found)
 
 
 def dependencies():

@@ -21,17 +21,15 @@ import subprocess
 import sys
 import tempfile
 
-from playing import play_checks
+from playing import TOP, play_checks
 
-TOP = pathlib.Path(__file__).resolve().parent.parent
+import kit
+import sources
+
 # How the prover says that it rejects the body of a function. One that merely calls such a function has "no proof: it calls ..".
 REJECTED = r"not proved\b|no proof: expected answers in \S+; `search` did not prove"
 # Half of the processors, since other parts of ./check run beside.
 LANES = max(1, (os.cpu_count() or 1) // 2)
-sys.path.append(str(TOP / "tools"))
-
-import kit
-import sources
 
 
 def replacements(edit):

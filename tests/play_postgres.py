@@ -11,15 +11,13 @@ crash, and it is restarted with a limit of two connections and without. Then
 - no more than four processes serve the example, except while a process ends whose connection was closed;
 - a transfer begins within a second after each failure is over;
 - the pool's metrics, which the example serves by HTTP, are in the OpenMetrics format while transfers run (tests/openmetrics.py), and tell of them;
-- nothing is lent at the end, and no process serves the example once it has closed its pool, before it ends;
+- nothing is lent at the end, each connection is closed, and no process of the server is left;
 - the journal is legal, has the counts that the example prints, and as many connections as the server has seen.
 
 What needs a package that is missing is skipped, with the reason. Prints what fails, and in the end the line 'N passed, M failed'.
 """
 
 import collections
-import fcntl
-import os
 import pathlib
 import re
 import signal
@@ -40,8 +38,8 @@ from contest import REGISTRY, built_by_cargo, runs_cargo
 from install import POOL, heap_of_kit
 
 CONNECTIONS = 4
-# For how long an example transfers, in seconds. Its failures take some eleven; if they take longer than the first, all is done again with the second.
-SECONDS = (25, 150)
+# For how long an example transfers, in seconds. Its failures take some eleven.
+SECONDS = 60
 # How long it may take to begin and to end, in seconds.
 SLACK = 120
 # How soon a transfer begins after a failure, in seconds, in one of how many tries.
@@ -138,31 +136,25 @@ class Watch(threading.Thread):
 
 
 class Program:
-    """A program that runs. Its standard output is full, so that it cannot end before that is read."""
+    """A program that runs, whose output and errors go to files of a folder."""
 
     def __init__(self, command, folder):
-        reader, writer = os.pipe()
-        self.filling = fcntl.fcntl(writer, fcntl.F_SETPIPE_SZ, os.sysconf("SC_PAGESIZE"))
-        os.write(writer, b"." * self.filling)
-        self.errors = folder / "errors"
-        with open(self.errors, "wb") as errors:
-            options = {"stdin": subprocess.DEVNULL, "stdout": writer, "stderr": errors}
+        self.files = [folder / name for name in ("output", "errors")]
+        with open(self.files[0], "wb") as output, open(self.files[1], "wb") as errors:
+            options = {"stdin": subprocess.DEVNULL, "stdout": output, "stderr": errors}
             self.process = subprocess.Popen([*WITH_PARENT, "KILL", *map(str, command)], **options)
-        os.close(writer)
-        self.output = open(reader, "rb")
 
     def is_alive(self):
         return self.process.poll() is None
 
     def ended(self):
-        """Reads its output, and waits for its end. Returns its status and what it wrote."""
-        text = self.output.read()[self.filling :].decode()
-        return self.process.wait(SLACK), text
+        """Waits for its end. Returns its status, what it wrote, and its errors."""
+        status = self.process.wait(SECONDS + SLACK)
+        return status, *(file.read_text(errors="replace") for file in self.files)
 
     def stop(self):
         self.process.kill()
         self.process.wait()
-        self.output.close()
 
 
 def begun(server, base):
@@ -189,7 +181,7 @@ def end_some(server):
 
 def pause(server):
     """Stops the server as in a crash, for a while."""
-    server.stop(signal.SIGQUIT)
+    server.stop("immediate")
     time.sleep(STOPPED)
     server.start()
 
@@ -227,6 +219,8 @@ def served(port):
 
 def metrics(name, port):
     """What is wanted of the metrics that a program serves while transfers run, and what they are."""
+    if not openmetrics.is_read(f"the metrics of the example over PostgreSQL in {name}"):
+        return
     kind, text = served(port)
     yield f"{name}: the type of its metrics", "application/openmetrics-text; version=1.0.0; charset=utf-8", kind
     fault = openmetrics.fault_of(openmetrics.pools_of, text)
@@ -251,14 +245,6 @@ def failures(name, server, base, program, port):
         print(f"{name}: {failure}: a transfer after {1000 * seconds:.0f} ms")
         yield f"{name}: {failure}: a transfer soon", True, seconds <= SOON or seconds
     yield f"{name}: it still runs", True, program.is_alive()
-
-
-def closing(name, server, program):
-    """Waits until no process serves the program, and yields whether it is still there then."""
-    until = time.monotonic() + max(SECONDS) + SLACK
-    while server.backends() and time.monotonic() < until and program.is_alive():
-        time.sleep(PAUSE)
-    yield f"{name}: no process after the close, before its end", (set(), True), (server.backends(), program.is_alive())
 
 
 def counts_of(lines):
@@ -292,10 +278,9 @@ def money(name, euros, server, base, told):
 
 def report(name, program):
     """Reads what the program prints. Returns its words by their names, and what is wanted of it, and what came of it."""
-    status, text = program.ended()
+    status, text, errors = program.ended()
     found = REPORT.fullmatch(text)
     print(f"{name}: {text.strip()!r}")
-    errors = program.errors.read_text(errors="replace")
     checks = [(f"{name}: its status and report", (0, True), (status, found is not None) if status == 0 and found else (status, text, errors[-1000:]))]
     if found:
         ended = found["created"] == found["destroyed"], found["idle"], found["lent"]
@@ -304,35 +289,23 @@ def report(name, program):
 
 
 def played(example, server, pool, folder):
-    """Plays an example, once more for longer if the machine is too busy. Returns what is wanted of it, and what came of it."""
-    for seconds in SECONDS:
-        since, time_left = time.monotonic(), []
-        found = list(attempt(example, seconds, server, pool, folder, lambda: time_left.append(seconds - (time.monotonic() - since))))
-        if time_left[0] > 0:
-            break
-        print(f"{example.name}: its failures took longer than {seconds} s")
-    return found
-
-
-def attempt(example, seconds, server, pool, folder, after_failures):
-    """Plays an example for some seconds. Yields what is wanted of it, and what came of it."""
-    name, base, place = example.name, f"{ROLE}_{example.name}_{seconds}", folder / f"run-{example.name}-{seconds}"
+    """Plays an example. Yields what is wanted of it, and what came of it."""
+    name, base, place = example.name, f"{ROLE}_{example.name}", folder / f"run-{example.name}"
     place.mkdir()
     server.ask(f"CREATE DATABASE {base} OWNER {ROLE}")
     server.ask(WATCHED, base)
     begin, watch, port = server.log.stat().st_size, Watch(server), free_port()
-    program = Program(example.command(server.port, base, seconds, place / "journal", port), place)
+    program = Program(example.command(server.port, base, SECONDS, place / "journal", port), place)
     watch.start()
     try:
         yield from failures(name, server, base, program, port)
-        after_failures()
-        yield from closing(name, server, program)
         told, found = report(name, program)
     finally:
         watch.is_over.set()
         watch.join()
         program.stop()
     yield from found
+    yield f"{name}: processes of the server that are left", set(), server.backends()
     yield f"{name}: more than {CONNECTIONS} processes at a time", ([], True), (watch.excess, watch.looks >= LEAST_LOOKS)
     log = server.noted(begin)
     yield f"{name}: connections with two users", [], SHARED.findall(log)
@@ -342,30 +315,11 @@ def attempt(example, seconds, server, pool, folder, after_failures):
         yield from journal(name, pool, place / "journal", told, log, used)
 
 
-def watching(server):
-    """That a connection with two users is noticed, as are processes and connections that are too many or missing."""
-    base = f"{ROLE}_watched"
-    server.ask(f"CREATE DATABASE {base} OWNER {ROLE}")
-    server.ask(WATCHED, base)
-    begin, once = server.log.stat().st_size, f"SET ROLE {ROLE}; BEGIN; INSERT INTO transfer VALUES (1, 0, 1, 1);"
-    yield "one user of a connection", ("", []), (server.answer(once + "COMMIT;", base), SHARED.findall(server.noted(begin)))
-    twice = server.answer(once + "INSERT INTO transfer VALUES (2, 0, 1, 1); COMMIT;", base)
-    yield "two users of a connection", (None, ["duplicate key value"]), (twice, SHARED.findall(server.noted(begin)))
-    server.ask(once + "BEGIN; COMMIT; COMMIT;", base)
-    yield "two users in turn", 3, len(SHARED.findall(server.noted(begin)))
-    authorized = "".join(f"{pid} LOG:  connection authorized: user={ROLE} database=x\n" for pid in (1, 2, 3))
-    log = authorized + "2 FATAL:  remaining connection slots are reserved for x\n3 FATAL:  terminating connection due to x\n"
-    yield "sessions of a log", ({"1"}, {"1", "3"}), sessions_of(log)
-    entries = "0 1 borrow 1 = make 0", "0 1 ready 0 makefail = freed", "0 2 add = make 1", "0 2 added 1 good = parked"
-    yield "counts of a journal", (2, 1, 1), counts_of(entries)
-
-
 def checks(library, pool):
     with tempfile.TemporaryDirectory(prefix="zuphinka-", ignore_cleanup_errors=True) as name:
         folder = pathlib.Path(name)
         examples = [in_rust(), in_c(library, folder), in_java(library, folder)]
         with Server(folder) as server:
-            yield from watching(server)
             for example in filter(None, examples):
                 yield from played(example, server, pool, folder)
 

@@ -27,7 +27,7 @@ LITTLE_MEMORY = 1 << 30
 MOST_ROUNDS = 249_999
 MANY_WORKERS = [
     ("four_objects.toml", 4, 10, 4), ("small.toml", 3, 7, 1), ("defaults.toml", 100, 3, 8), ("defaults.toml", 8, 249_995 // 8, 8),
-    ("defaults.toml", 9, 199_996 // 9, 8),
+    ("defaults.toml", 9, 199_996 // 9, 8), ("defaults.toml", 1_023, 20, 8),
 ]
 PLAIN_LIFE = b"""0 10 borrow 10 = make 0
 0 11 ready 0 good = lent
@@ -46,7 +46,6 @@ FILES = {
     "illegal.journal": PLAIN_LIFE.replace(b"check", b"parked"), "long_line": b"a" * 300, "not_a_line": b"0 1 borrow\n",
     "bad_number": b"0 1 borrow 01\n", "truncated": b"0 1 borrow 1", "table_key.toml": b"[abandoned]\nnone = 1\n",
     "all_kinds.toml": b"lifo = true\nmaxIdle = 3\nminIdle = 1\n[abandoned]\nremoveAbandonedOnBorrow = true\n",
-    "segment-0": PLAIN_LIFE, "settings-0.toml": b"lifo = true\n",
 }
 TWO_BORROWS = b"0 0 borrow 0 = make 0\n1 5 borrow 5 = wait\n"
 # What the default settings answer: 8 objects, the last one parked first, an eviction of those idle for half an hour.
@@ -67,29 +66,11 @@ TOLD_PATHS = {
     "pool: out of memory\npool: x": "pool: out of memory\\npool: x", "\x85\x9f\xa0\u2028": "\\u0085\\u009F\xa0\u2028", "\xa0\\": "\xa0\\", "\"'": "\"'",
 }
 NOBODY = 65534
+# Some of which argument_rules.py has no words, and some of which each allocation fails in refuse_uses.py.
 WRONG_ARGUMENTS = [
-    "play", "replay", "journal", "settings", "counts", "run ", " run", "ru", "nonsense", "RUN", "", "-", "--", "-x", "version", "Version",
-    "run", "check", "Help", "--help=run", "-help", "run help", "runs", "--version=1", "-Vx", "-- --version", "-- -V",
-    "run --version", "run -V", "check --version", "stats -V", "load --version", "run defaults.toml plain.script --version",
-    "run defaults.toml", "check defaults.toml", "run defaults.toml plain.script more", "run missing missing missing",
-    "check defaults.toml plain.journal -x", "check defaults.toml plain.journal -x -- missing", "run -x defaults.toml plain.script",
-    "run --settings defaults.toml plain.script",
-    "run defaults.toml --script=plain.script", "-- run defaults.toml plain.script", "-q run defaults.toml plain.script",
-    "defaults.toml plain.script", "run run", "run --", "run -- defaults.toml",
-    "run defaults.toml plain.script -- more", "run defaults.toml plain.script -- --", "check defaults.toml --", "check -- defaults.toml",
-    "stats", "STATS plain.journal", "stats plain.journal more", "stats defaults.toml plain.journal",
-    "stats -x plain.journal", "stats --journal plain.journal", "stats --journal=plain.journal", "stats --",
-    "load", "LOAD defaults.toml 1 1", "load defaults.toml", "load defaults.toml 1", "load defaults.toml 1 1 1",
-    "load -x defaults.toml 1 1", "load defaults.toml --workers=1 1", "load defaults.toml -1 1", "load defaults.toml 1 -1",
-    # Numbers out of their ranges, where the settings are good.
-    "load defaults.toml 0 1", "load defaults.toml 1 0", "load defaults.toml 0 0", "load defaults.toml 1024 1", "load defaults.toml 1 1000001",
-    "load defaults.toml 4294967295 1", "load defaults.toml 1 18446744073709551615",
-    # Some that ask for help besides.
-    "--help", "-h", "help", "run --help", "run -h", "check --help", "help run", "help check", "stats --help", "stats -h", "help stats",
-    "load --help", "help load", "help help", "nonsense -h", "run defaults.toml plain.script -h", "help no such thing",
-    "--version --help", "--version -h", "-V --help", "--help --version", "-h -V", "help --version",
-    # Some that ask for the version and not for help.
-    "--version", "-V", "--version run", "-V run defaults.toml plain.script", "--version help", "--version --", "-V -x", "--version --version",
+    "nonsense", "RUN", "runs", "-Vx", "--help=run", "--version=1", "run", "run --", "run --version", "check defaults.toml", "stats plain.journal more",
+    "run --settings defaults.toml plain.script", "load defaults.toml 1024 1", "load defaults.toml 1 1000001", "load defaults.toml 0 1", "--help",
+    "help no such thing", "-V --help", "--version",
 ]
 # Words that are no numbers of the format. They are told before any file is opened.
 NO_NUMBERS = ["", " ", "x", "01", "00", "+1", "1.0", "1e3", "0x1", "1_000", " 1", "1 ", "\u0661", "18446744073709551616", "9" * 300]
@@ -133,8 +114,6 @@ def good_runs():
     yield ["check", "defaults.toml", "plain.journal", "--"], told(b"legal 4\n")
     yield ["run", "/dev/stdin", "plain.script"], told(journal), {"input": b"maxTotal = 1\n"}
     yield ["check", "/dev/stdin", "plain.journal"], told(b"legal 4\n"), {"input": b"maxTotal = 1\n"}
-    # The settings are those of the command, whatever is beside a segment.
-    yield ["check", "two_entries.toml", "segment-0"], fault("line 1: journal full")
     yield ["run", "small.toml", "/dev/stdin"], told(journal), {"input": script}
     # The settings that the file says are those that hold.
     for settings in ["small.toml", "longest.toml"]:
@@ -234,40 +213,16 @@ def short_runs():
 # A journal of five entries in two segments.
 FIRST_SEGMENT = b"0 0 borrow 0 = make 0\n0 0 ready 0 good = lent\n0 0 return 0 = check\n0 0 park 0 good = parked\n"
 SECOND_SEGMENT = b"pool-journal 2 4 1 open none 0 0 0 1\n0 idle 3 0 0 0 old\n0 0 borrow 0 = take 0\n"
-# What is answered to segments, one after the other.
-SEGMENTS = [
-    ([FIRST_SEGMENT], (b"legal 4\n", b"", 0)),
-    ([FIRST_SEGMENT, SECOND_SEGMENT], (b"legal 5\n", b"", 0)),
-    ([SECOND_SEGMENT], (b"illegal base 0\n", b"", 1)),
-    ([b"", FIRST_SEGMENT, SECOND_SEGMENT], (b"legal 5\n", b"", 0)),
-    ([b"pool-journal 2 0 0 open none 0 0 0 0\n" + FIRST_SEGMENT, SECOND_SEGMENT], (b"legal 5\n", b"", 0)),
-    ([FIRST_SEGMENT, SECOND_SEGMENT.replace(b"none", b"0")], (b"illegal base 1\n", b"", 1)),
-    ([FIRST_SEGMENT, SECOND_SEGMENT.replace(b"idle 3", b"idle 2")], (b"illegal base 1\n", b"", 1)),
-    ([FIRST_SEGMENT, SECOND_SEGMENT.replace(b"idle 3", b"idle 4")], (b"illegal base 1\n", b"", 1)),
-    ([FIRST_SEGMENT, SECOND_SEGMENT.replace(b"idle 3", b"idle 03")], (b"", b"pool: line 2: bad number\n", 3)),
-    ([FIRST_SEGMENT, SECOND_SEGMENT.replace(b"take 0", b"make 1")], (b"illegal 4 take 0\n", b"", 1)),
-    ([FIRST_SEGMENT, b""], (b"illegal base 1\n", b"", 1)),
-    ([FIRST_SEGMENT, FIRST_SEGMENT], (b"illegal base 1\n", b"", 1)),
-    ([FIRST_SEGMENT, SECOND_SEGMENT, SECOND_SEGMENT], (b"illegal base 2\n", b"", 1)),
-    ([b"pool-journal 2 4 1 open"], (b"", b"pool: line 1: truncated\n", 3)),
-    ([b"pool-journal 2 4 1 open\n"], (b"", b"pool: line 1: not a line\n", 3)),
-    ([b"pool-journal 3\n"], (b"", b"pool: line 1: not a line\n", 3)),
-    ([b"pool-journal 3 0 0 open none 0 0 0 0\n"], (b"", b"pool: line 1: not a line\n", 3)),
-    ([FIRST_SEGMENT, SECOND_SEGMENT + b"x\n"], (b"", b"pool: line 4: not a line\n", 3)),
-]
 
 
 def runs_of_segments(folder):
-    """A journal in several files is judged as one; of a file by itself the statistics are those of its entries."""
-    for number, (texts, wanted) in enumerate(SEGMENTS):
-        names = [path.name for path in write_files(folder, {f"segment{number}.{index}": text for index, text in enumerate(texts)})]
-        # A segment has the room of a journal, whatever was cut before it.
-        for settings in ["defaults.toml", "seven_entries.toml"]:
-            yield ["check", settings, *names], wanted
-        yield ["check", "--", "defaults.toml", *names], wanted
-        for at in range(len(names) + 1):
-            yield ["check", "defaults.toml", *names[:at], "--", *names[at:]], wanted
-    write_files(folder, {"second": SECOND_SEGMENT})
+    """A journal in several files is judged as one, and each segment has the room of a journal; of a file by itself the statistics are those of its
+    entries."""
+    write_files(folder, {"first": FIRST_SEGMENT, "second": SECOND_SEGMENT})
+    yield ["check", "seven_entries.toml", "first", "second"], told(b"legal 5\n")
+    yield ["check", "--", "defaults.toml", "empty", "first", "second"], told(b"legal 5\n")
+    yield ["check", "defaults.toml", "second"], (b"illegal base 0\n", b"", 1)
+    yield ["check", "defaults.toml", "first", "second", "empty"], (b"illegal base 2\n", b"", 1)
     yield ["stats", "second"], told(statistics(*[0] * 9))
     yield ["check", "defaults.toml", "second", "missing"], fault("cannot open missing")
 

@@ -19,10 +19,11 @@ Prints each verdict that differs, and in the end the line 'N passed, M failed'.
 """
 
 import os
+import random
 import sys
 
 from case_files import unpacked, wanted_of
-from play_damaged import Chance, damaged, journal_by_chance
+from play_damaged import damaged, journal_by_chance, ways
 from playing import differing, peak, run, scratch, side_by_side, tell, write_files
 from pool_model import cut_at, settings_of, verdict_of_segments
 
@@ -80,30 +81,20 @@ def segmented(cases):
             yield case, folder / "settings.toml", [folder / f"{number}.journal" for number in range(len(case.segments))]
 
 
-def ways(segments, chance):
-    """The segments as they are, and with one lost, where others are left, repeated, or exchanged with the next."""
-    at = chance.below(len(segments))
-    yield "cut", segments
-    if len(segments) > 1:
-        yield "one lost", segments[:at] + segments[at + 1 :]
-    yield "one repeated", segments[: at + 1] + segments[at:]
-    yield "two exchanged", segments[:at] + segments[at : at + 2][::-1] + segments[at + 2 :]
-
-
 def of_journal(pool, case, settings, chance):
     read, text = settings_of(case.settings.decode()), case.journal
     count = text.count(b"\n")
     step = max(1, count // MOST_SEGMENTS)
     every = cut_at(read, text, set(range(1, count, step)))
     yield judged, pool, f"{case.name}, cut everywhere", settings, every, b"legal %d\n" % count
-    some = cut_at(read, text, {1 + chance.below(max(1, count)) for _ in range(3)})
+    some = cut_at(read, text, {1 + chance.randrange(max(1, count)) for _ in range(3)})
     for how, segments in ways(some, chance):
         yield judged, pool, f"{case.name}, {how}", settings, segments, verdict_of_segments(read, segments)
 
 
 def damaged_segments():
     """The segments THREE with each of their bytes damaged, each with a name."""
-    chance = Chance(11)
+    chance = random.Random(11)
     for index, text in enumerate(THREE):
         for at in range(len(text)):
             for changed in damaged(text, at, chance):
@@ -136,7 +127,7 @@ def trials(pool, cases, defaults):
     """All trials: each a function and its arguments."""
     for case, settings, segments in segmented(cases):
         yield checked_anyhow, case.name, [pool, "check", settings, *segments], wanted_of(case.verdict)
-    chance, read = Chance(7), settings_of("")
+    chance, read = random.Random(7), settings_of("")
     for case, folder in cases:
         yield from of_journal(pool, case, folder / "settings.toml", chance) if case.is_run else ()
     for name, segments in damaged_segments():

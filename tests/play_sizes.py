@@ -1,11 +1,10 @@
-"""Plays the program on journals, pools, evictions, clears, bases, settings texts, keys and loads of all sizes, and sees that it gives up on none.
+"""Plays the program on journals, pools, clears, bases, settings texts and keys of all sizes, and sees that it gives up on none.
 
     play_sizes.py POOL
 
-POOL is the program. Sizes are spread from 1 to the limit, or to 1,200,000 lines, 100,000 objects, and 300,000 rounds of a load, with the
-numbers about each power of 2 for texts and keys. What must be answered is known for each size without playing. Bases are those of
-tests/pool_model.py. Evictions must examine idle objects in the order in which they were parked, round after round, each run going on where the last
-one stopped; clears must destroy them in that order, each once.
+POOL is the program. Sizes are spread from 1 to the limit, or to 1,200,000 lines and 100,000 objects, with the numbers about powers of 2 for texts
+and keys. What must be answered is known for each size without playing. Bases are those of
+tests/pool_model.py. Clears must destroy objects in the order in which they were parked, each once.
 
 Reclaims that find nothing must not walk over all lent objects: valgrind counts the instructions of scripts of two lengths, with as many objects.
 
@@ -19,40 +18,30 @@ import sys
 from argument_rules import statistics
 from case_files import script_of
 from many_objects import NO_LIMITS, segments_of
-from play_program import many_workers
 from playing import differing, has, run, scratch, side_by_side, tell, write_files
 from pool_model import settings_of
 
 LONGEST_TEXT = 1_048_576
 LINES = [1, 2, 10, 100, 1_000, 4_096, 10_000, 65_535, 65_536, 65_537, 100_001, 300_000, 1_048_577, 1_200_000]
 OBJECTS = [1, 2, 9, 100, 1_023, 1_025, 2_001, 4_097, 10_000, 32_769, 65_537, 100_000]
-# So many objects are examined in turn, until so many are, for each number of tests of a run: of -n the n-th part, rounded up; of n that many, but no
-# more than there are.
-EVICTED, EXAMINED = 1_000, 2_500
-TESTS_OF_A_RUN = {1: 1, 7: 7, -1: 1_000, -3: 334, 2_147_483_647: 1_000, -2_147_483_648: 1}
 CLEARED = [1_000, 100_000]
 # The objects of a base.
 RECORDS = [2, 9, 1_025, 10_000, 100_000]
 # Lent objects that are used while others are reclaimed, and the most by which the instructions may grow.
 RECLAIMED, MOST_GROWTH = (500, 2_000), 8
-# Workers, and rounds of each.
-LOADS = [(1, 1), (1, 16_385), (1, 300_000), (2, 65_537), (4, 40_000), (7, 2_049), (100, 257), (1_023, 20)]
 
 
 def lengths(limit):
     """Lengths from 1 to the limit: about the powers of 2, and between them."""
-    found = {1, 2, 3, limit - 1, limit}
-    for power in range(2, limit.bit_length()):
-        found |= {2**power - 1, 2**power, 2**power + 1, 2**power * 3 // 2}
-    found |= {200, 201, 255, 257, 2_049, 65_535, 100_000, 1_000_000}
-    return sorted(length for length in found if 0 < length <= limit)
+    about = {2**power + more for power in range(2, 21) for more in (-1, 0, 1, 2 ** (power - 1))}
+    return sorted(length for length in {1, 2, 3, *about, limit - 1, limit} if length <= limit)
 
 
 # What a part plays, in a folder of its own: functions that yield the name of a run, its words and its answer, once its files are there.
 
 
-def with_limit(folder, limit, others=""):
-    write_files(folder, {"limits.toml": (NO_LIMITS.replace("4294967296", str(limit)) + others).encode()})
+def with_limit(folder, limit):
+    write_files(folder, {"limits.toml": NO_LIMITS.replace("4294967296", str(limit)).encode()})
 
 
 def parked(objects):
@@ -84,15 +73,6 @@ def objects(folder):
         entries = [*parked(count), f"0 2 borrow 2 = take {count - 1}", f"0 3 ready {count - 1} good = lent"]
         yield from journal_runs(folder, f"{count} objects", entries)
         yield f"stats: {count} objects", ["stats", "journal"], (statistics(1, 0, count, *[0] * 6), b"", 0)
-
-
-def evictions(folder):
-    for number, tests in TESTS_OF_A_RUN.items():
-        with_limit(folder, 2**32, f"numTestsPerEvictionRun = {number}\n")
-        entries = parked(EVICTED)
-        for first in range(0, EXAMINED, tests):
-            entries += [f"1 1 evict = count {tests}", *(f"1 1 evictnext = keptidle {i % EVICTED}" for i in range(first, first + tests))]
-        yield from journal_runs(folder, f"evictions with {number} tests of a run", entries)
 
 
 def clears(folder):
@@ -174,18 +154,10 @@ def played(pool, part):
         return [differing(name, wanted, run(pool, *words, cwd=folder)) for name, words, wanted in part(folder)]
 
 
-def load_differences(pool, workers, rounds):
-    """What differs in a load. How many objects are made depends on the threads' turns."""
-    with scratch() as folder:
-        with_limit(folder, 2**32)
-        return many_workers(pool, folder, "limits.toml", workers, rounds, workers)
-
-
 def main(pool):
     pool = pathlib.Path(pool).resolve()
-    found = [found for part in side_by_side(lambda part: played(pool, part), [lines, objects, evictions, clears, bases, texts, keys]) for found in part]
-    found += [reclaim_differences(pool)] if has("the work of reclaims", "valgrind") else []
-    return tell([*found, *(load_differences(pool, *load) for load in LOADS)])
+    found = [found for part in side_by_side(lambda part: played(pool, part), [lines, objects, clears, bases, texts, keys]) for found in part]
+    return tell(found + ([reclaim_differences(pool)] if has("the work of reclaims", "valgrind") else []))
 
 
 if __name__ == "__main__":

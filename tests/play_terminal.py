@@ -3,8 +3,8 @@
     play_terminal.py POOL
 
 POOL is the program. Standard error is a terminal of the test's own, or a pipe. It judges a journal that comes slowly, from standard
-input; and it is used with wrong arguments, with files that have errors, and with several files of which one is not legal. At a terminal the lines of an error must be those that
-crates/pool_tasks/specs/Hints.antt says, and to a pipe the first of them.
+input; and it is used with wrong arguments, with files that have errors, and with several files of which one is not legal. The lines of an error must be
+those that crates/pool_tasks/specs/Hints.antt says.
 
 Prints each case that differs, and in the end the line 'N passed, M failed'.
 """
@@ -106,14 +106,12 @@ def judge(pool, folder, pieces, last, at_terminal):
 
 
 def hint_cases(pool, folder):
-    """Each use with an error, what it must tell a terminal or a pipe, and what it tells."""
+    """Each use with an error, what it must tell a terminal, and what it tells. To a pipe tests/play_program.py has it tell the first line alone."""
     write_files(folder, FILES)
     (folder / "folder").mkdir()
     for words, (first, *hints) in HINTS:
         lines = [f"pool: {first}", *(f"  {hint}" for hint in hints)]
-        command = [pool, *words.split(" ")]
-        yield f"{words}, at a terminal", "".join(f"{line}\r\n" for line in lines).encode(), ended(command, folder, True)[1]
-        yield f"{words}, to a pipe", f"{lines[0]}\n".encode(), ended(command, folder, False)[1]
+        yield words, "".join(f"{line}\r\n" for line in lines).encode(), ended([pool, *words.split(" ")], folder, True)[1]
 
 
 def verdict_cases(pool, folder):

@@ -9,7 +9,7 @@ the end the line 'N passed, M failed'.
 import shutil
 import sys
 
-from playing import TOP, play_checks, run, skip
+from playing import TOP, ended, play_checks, run, skip
 
 from parts import PARTS
 
@@ -18,8 +18,7 @@ EXAMPLE = "run", "examples/settings.toml", "examples/plain-life.script"
 
 def used(*words):
     """What a command writes to standard output and to standard error, and its status."""
-    done = run(*words, cwd=TOP, text=True)
-    return done.stdout, done.stderr, done.returncode
+    return ended(run(*words, cwd=TOP, text=True))
 
 
 def checks(pool, library):

@@ -74,13 +74,12 @@ class Server:
 
     def __init__(self, folder):
         self.folder, self.user, self.port = folder / "server", other_user(), free_port()
-        self.data, self.log, self.process = self.folder / "data", folder / "log", None
+        self.data, self.log = self.folder / "data", self.folder / "log"
         self.folder.mkdir()
         folder.chmod(0o711)
         if self.user:
             os.chown(self.folder, self.user["user"], self.user["group"])
-        words = [PROGRAMS / "initdb", "-D", self.data, "-U", "postgres", "-A", "trust", "-E", "UTF8", "--locale=C", "--no-sync"]
-        subprocess.run(words, cwd=self.folder, check=True, stdout=subprocess.DEVNULL, timeout=LONGEST, **self.user)
+        self.control("initdb", "-o", "-U postgres -A trust -E UTF8 --locale=C --no-sync")
         with open(self.data / "postgresql.conf", "a") as settings:
             settings.write(SETTINGS.format(port=self.port, folder=self.folder, most=MOST_CONNECTIONS))
         (self.data / "pg_hba.conf").write_text(ACCESS)
@@ -91,29 +90,19 @@ class Server:
         return self
 
     def __exit__(self, *_):
-        if self.process and self.process.poll() is None:
-            self.process.send_signal(signal.SIGQUIT)
-            try:
-                self.process.wait(LONGEST)
-            except subprocess.TimeoutExpired:
-                self.process.kill()
-                self.process.wait()
+        self.stop("immediate")
+
+    def control(self, *words):
+        words = [PROGRAMS / "pg_ctl", "-D", self.data, "-t", str(LONGEST), *words]
+        subprocess.run(words, cwd=self.folder, check=True, stdin=subprocess.DEVNULL, stdout=subprocess.DEVNULL, **self.user)
 
     def start(self):
         """Starts the server, and waits until it answers."""
-        with open(self.log, "ab") as log:
-            options = {"cwd": self.folder, "stdin": subprocess.DEVNULL, "stdout": log, "stderr": log, **self.user}
-            self.process = subprocess.Popen([*WITH_PARENT, "QUIT", PROGRAMS / "postgres", "-D", self.data], **options)
-        until = time.monotonic() + LONGEST
-        while self.answer("SELECT 1") is None:
-            if time.monotonic() > until or self.process.poll() is not None:
-                raise SystemExit(f"the server does not start:\n{self.log.read_text()[-2000:]}\n0 passed, 1 failed")
-            time.sleep(0.02)
+        self.control("start", "-l", self.log)
 
-    def stop(self, number=signal.SIGINT):
-        """Stops the server: by SIGINT in order, by SIGQUIT at once, as in a crash."""
-        self.process.send_signal(number)
-        self.process.wait(LONGEST)
+    def stop(self, mode="fast"):
+        """Stops the server: in order, or `immediate`, as in a crash."""
+        self.control("stop", "-m", mode)
 
     def restart(self):
         self.stop()

@@ -21,7 +21,6 @@ Prints each run and each call that is wrong, and in the end the line 'N passed, 
 import collections
 import os
 import pathlib
-import subprocess
 import sys
 
 from playing import preloaded, refusals, run, scratch, tell
@@ -59,14 +58,6 @@ def calls_in(error):
     return sum((collections.Counter({call: int(number)}) for call, _, number in pairs), collections.Counter())
 
 
-def ended(path, variables):
-    """What came of a run. One that does not end within a minute has no status."""
-    try:
-        return run(path, env=os.environ | variables, timeout=60)
-    except subprocess.TimeoutExpired:
-        return subprocess.CompletedProcess([path], None, b"", b"")
-
-
 def by_chance(path, output_file, seeds):
     """What is wrong with each run of many threads, and which calls were never refused."""
     wanted, refused = pathlib.Path(output_file).read_bytes(), collections.Counter()
@@ -75,7 +66,7 @@ def by_chance(path, output_file, seeds):
         for seed in range(int(seeds) + 1):
             mark.unlink(missing_ok=True)
             chance = {"REFUSE_SEED": str(seed), "REFUSE_OF": str(ONE_OF)} if seed else {}
-            done = ended(path, {"LD_PRELOAD": str(library), "REFUSED": str(mark)} | chance)
+            done = run(path, env=os.environ | {"LD_PRELOAD": str(library), "REFUSED": str(mark)} | chance, timeout=60)
             calls = calls_in(done.stderr) if is_whole(done, wanted) else collections.Counter()
             refused += calls
             times = mark.stat().st_size if mark.exists() else 0

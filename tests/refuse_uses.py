@@ -6,7 +6,7 @@ POOL is the program. It is used with files and with standard input, with wrong a
 tests/play_program.py, and on every EACH-th script of tests/cases. Each use is run once for each of its allocations, which is refused
 then (tests/refuse.c, built with the C compiler that CC names, or cc). It must then answer what it answers else; or end with status 3,
 after some whole lines from the front of that answer, and the line 'pool: out of memory', 'pool: no thread' where it starts threads, or
-'pool: cannot open ..' for one of its files, or for the settings beside one. If the words are wrong, only status 3 with 'pool: out of
+'pool: cannot open ..' for one of its files. If the words are wrong, only status 3 with 'pool: out of
 memory' and no output may replace the answer. No use can do without its first allocation.
 
 Prints each run that is wrong, and in the end the line 'N passed, M failed'.
@@ -26,8 +26,6 @@ from playing import preloaded, refusals, scratch, side_by_side, tell
 EACH, SCRIPT = 4, "worked/loans/two_objects_fifo"
 # Longer scripts take the same allocations, and more time.
 LONGEST = 20_000
-# What is told of the settings beside a segment.
-BESIDE = b"the settings beside "
 # A use: arguments of the program, its answer (output, error, status), what is on its standard input, and whether the words name a task.
 Use = collections.namedtuple("Use", "arguments answer given is_task", defaults=[b"", True])
 
@@ -72,7 +70,7 @@ def is_refused(use, answer):
     if not use.is_task:
         return answer == (b"", b"pool: out of memory\n", 3)
     output, error, status = answer
-    lines = {b"pool: out of memory\n"} | {b"pool: cannot open %s%s\n" % (what, path.encode()) for path in use.arguments[1:] for what in (b"", BESIDE)}
+    lines = {b"pool: out of memory\n", *(b"pool: cannot open %s\n" % path.encode() for path in use.arguments[1:])}
     if use.arguments[:1] == ["load"]:
         lines.add(b"pool: no thread\n")
     return status == 3 and error in lines and output[-1:] in (b"", b"\n") and use.answer[0].startswith(output)

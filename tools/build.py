@@ -9,23 +9,20 @@ failed, and the status is then 1. It passes over crates that are built of their 
 Each build has a job for each processor, as far as there is memory. tools/kit.py builds one crate.
 """
 
+import concurrent.futures
 import fcntl
-import graphlib
 import os
 import pathlib
 import shutil
 import signal
 import subprocess
 import sys
-import tempfile
 import time
 
 import sources
 from sources import TOP, below, libraries
 
 TOOLS = pathlib.Path(__file__).resolve().parent
-# For how long to wait before looking again, and before saying again how long it has been, in seconds.
-PAUSE, REMIND = 0.2, 60
 # The memory that each job may take, in bytes.
 EACH_JOB = 1_500_000_000
 
@@ -55,56 +52,46 @@ class Work:
     """What is to be built, what is being built, and since when."""
 
     def __init__(self, program, wanted):
-        self.program, self.total, self.done = program, len(wanted), 0
+        self.program, self.wanted, self.done = program, wanted, 0
         self.sums = {crate: sources.sum_of_sources(crate) for crate in wanted}
-        self.order = graphlib.TopologicalSorter({crate: below(crate).intersection(wanted) - {crate} for crate in wanted})
-        self.order.prepare()
-        self.running = {}
+        self.builds, self.running = {}, {}
         self.began = time.monotonic()
 
     def say(self):
         """Says how far the work is."""
         minutes, seconds = divmod(int(time.monotonic() - self.began), 60)
-        far = f"{self.done} of {self.total} crates, {minutes}:{seconds:02} min"
-        print(f"{self.program}: {far}: {', '.join(self.running)}", file=sys.stderr, flush=True)
+        far = f"{self.done} of {len(self.wanted)} crates, {minutes}:{seconds:02} min"
+        print(f"{self.program}: {far}: {', '.join([*self.running])}\n", end="", file=sys.stderr, flush=True)
 
-    def start(self, crate):
-        """Starts a build."""
-        jobs = min(len(os.sched_getaffinity(0)), free_memory() // EACH_JOB)
-        log = tempfile.TemporaryFile("w+")
-        words = [sys.executable, TOOLS / "kit.py", crate, str(max(1, jobs))]
-        self.running[crate] = subprocess.Popen(words, stdin=subprocess.DEVNULL, stdout=log, stderr=log), log
-
-    def finish(self, crate):
-        """Notes what an ended build has built, except of a crate that was edited meanwhile."""
-        started, log = self.running.pop(crate)
-        if started.returncode:
-            log.seek(0)
-            sys.exit(f"{log.read()}{self.program}: {crate} can't be built")
+    def build(self, crate):
+        """Builds a crate once all below it are built. Notes what that has built, except of a crate that was edited meanwhile."""
+        for lower in below(crate) - {crate}:
+            if lower in self.builds:
+                self.builds[lower].result()
+        jobs = max(1, min(len(os.sched_getaffinity(0)), free_memory() // EACH_JOB))
+        streams = {"stdin": subprocess.DEVNULL, "stdout": subprocess.PIPE, "stderr": subprocess.STDOUT}
+        self.running[crate] = process = subprocess.Popen([sys.executable, TOOLS / "kit.py", crate, str(jobs)], text=True, **streams)
+        self.say()
+        text, _ = process.communicate()
+        del self.running[crate]
+        if process.returncode:
+            sys.exit(f"{text}{self.program}: {crate} can't be built")
         sources.sum_of_sources.cache_clear()
         if self.sums[crate] == sources.sum_of_sources(crate):
             sources.note(crate)
-        self.order.done(crate)
         self.done += 1
 
-    def stop(self):
-        for started, _ in self.running.values():
-            started.terminate()
-            started.wait()
-
     def run(self):
-        """Builds all of it."""
-        said = 0.0
-        while self.order.is_active():
-            ready = self.order.get_ready()
-            for crate in ready:
-                self.start(crate)
-            if ready or time.monotonic() - said > REMIND:
-                self.say()
-                said = time.monotonic()
-            time.sleep(PAUSE)
-            for crate in [crate for crate, (started, _) in self.running.items() if started.poll() is not None]:
-                self.finish(crate)
+        """Builds all of it, the lower crates first. Once one can't be built, the others end."""
+        with concurrent.futures.ThreadPoolExecutor(len(self.wanted)) as workers:
+            try:
+                for crate in sorted(self.wanted, key=lambda crate: len(below(crate))):
+                    self.builds[crate] = workers.submit(self.build, crate)
+                for build in concurrent.futures.as_completed(self.builds.values()):
+                    build.result()
+            finally:
+                for process in [*self.running.values()]:
+                    process.terminate()
 
 
 def main():
@@ -124,11 +111,7 @@ def main():
     # Another run may have built it meanwhile.
     if sources.is_current(program):
         return
-    work = Work(program, [crate for crate in sorted(below(program)) if not sources.is_current(crate)])
-    try:
-        work.run()
-    finally:
-        work.stop()
+    Work(program, [crate for crate in below(program) if not sources.is_current(crate)]).run()
 
 
 if __name__ == "__main__":

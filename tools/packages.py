@@ -34,18 +34,9 @@ def lacking(packages, parts):
     return [package.name for package in needed if not package.is_there()]
 
 
-def prefix(user):
-    """The words before a command that makes it root's: none for root, those of sudo if it asks for no password, or else `None`."""
-    if user == 0:
-        return []
-    words = ["sudo", "-n"]
-    if shutil.which("sudo") and subprocess.run([*words, "true"], stdin=subprocess.DEVNULL, capture_output=True).returncode == 0:
-        return words
-    return None
-
-
 def run(words, folder=None):
-    """Runs a command in a folder, with the output of this process, and returns why it failed, if it did."""
+    """Prints a command and runs it in a folder, with the output of this process. Returns why it failed, if it did."""
+    print(" ".join(words), flush=True)
     try:
         status = subprocess.run(words, cwd=folder, stdin=subprocess.DEVNULL, timeout=LONGEST).returncode
     except (OSError, subprocess.TimeoutExpired) as error:
@@ -54,18 +45,6 @@ def run(words, folder=None):
 
 
 def install(names):
-    """Prints the command that installs the packages of these names, and runs it, after an update of their list if it fails. Returns why they are not
-    installed, if they aren't."""
-    if not names:
-        return None
-    command = ["apt-get", "install", "-y", "--no-install-recommends", *names]
-    print(" ".join(command), flush=True)
-    if not shutil.which("apt-get"):
-        return "there is no apt-get here"
-    before = prefix(os.geteuid())
-    if before is None:
-        return "that needs root, or sudo without a password"
-    before = [*before, "env", "DEBIAN_FRONTEND=noninteractive"]
-    if run([*before, *command]) is None:
-        return None
-    return run([*before, "apt-get", "update"]) or run([*before, *command])
+    """Installs the packages of these names, as root or by sudo without a password. Returns why they are not installed, if they aren't."""
+    apt = [*(["sudo", "-n"] if os.geteuid() else []), "env", "DEBIAN_FRONTEND=noninteractive", "apt-get"]
+    return (run([*apt, "update"]) or run([*apt, "install", "-y", "--no-install-recommends", *names])) if names else None

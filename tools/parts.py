@@ -1,5 +1,5 @@
 """The parts of ./check, as it shows them. Those begin first that take longest. `./check --list` tells their names and what they test. Some are also
-parts of `./check quick`, and two of that alone. And the Debian packages that they need besides the Rattle kit, which `./check --install` installs."""
+parts of `./check quick`, and one of that alone. And the Debian packages that they need besides the Rattle kit, which `./check --install` installs."""
 
 import sources
 from packages import Package
@@ -31,7 +31,7 @@ PARTS = (
          "python3 tests/refuse_memory.py by-chance {test_stress} crates/test_stress/stdout 10"),
     Part("work", "reads, writes and allocations of the program and of a cut", "python3 tests/count_work.py {pool} {test_counts}"),
     Part("sizes", "journals and settings of all sizes, and many objects that are evicted and cleared", "python3 tests/play_sizes.py {pool}"),
-    Part("judge", "segments that are checked independently and joined", "python3 tests/play_judge.py {judge} {pool} tests/cases"),
+    Part("judge", "segments that are checked independently and joined", "python3 tests/play_judge.py {judge} tests/cases"),
     Part("rust", "the Rust crate: its tests, its examples, its binding", "python3 tests/check_rust.py {pool} {judge}", ("zuphinka",), folders=CARGO),
     Part("java",
          "the pool for Java: its calls, also with failing allocations, eight threads that call at random, its journals, examples and documentation",
@@ -49,16 +49,13 @@ PARTS = (
          "python3 tests/play_commands.py {pool} {journal_picture}", ("judge", "example_archive", "zuphinka"), folders=CARGO),
     Part("postgres", "the examples over PostgreSQL, in Rust, Java and C, while the server fails",
          "python3 tests/play_postgres.py {zuphinka} {pool}", folders=CARGO),
-    Part("c-pool", "the C pool for threads, also with failing allocations", "python3 tests/play_c_pool.py {zuphinka} {pool} {judge}"),
+    Part("c-pool", "the C pool for threads, also with failing allocations", "python3 tests/play_c_pool.py {zuphinka} {judge}"),
     Part("tools", "a use of ./check, ./try, tools/build.py and the benchmarks, and a wrong one",
          "python3 tests/play_tools.py {pool} {zuphinka}"),
-    Part("soak", "ten seconds of bench/soak", "python3 bench/soak --seconds 10 --pool {pool}", ("zuphinka",), folders=CARGO),
+    Part("soak", "some seconds of bench/soak", "python3 bench/soak --pairs 2000000 --pool {pool}", ("zuphinka",), folders=CARGO),
     Part("calls", "calls of many callers, event by event at random, against a model of their rules", "python3 tests/play_calls.py {test_calls}"),
-    Part("killed", "runs of the program that are killed", "python3 tests/play_killed.py {pool}"),
     Part("cases", "all cases of tests/cases on the program", "python3 tests/play_cases.py {pool} tests/cases"),
-    Part("case-files", "the files of tests/cases are as tests/make_cases.py makes them, and in their format", "python3 tests/check_cases.py"),
-    Part("counts", "the counts of the core, and of pools that are cut after each entry, against those computed from the journal",
-         "python3 tests/play_counts.py {test_counts} tests/cases"),
+    Part("case-files", "the files of tests/cases are as tests/make_cases.py makes them", "python3 tests/make_cases.py --check"),
     Part("program", "arguments, files, statuses and messages of the program", "python3 tests/play_program.py {pool}"),
     Part("lines", "lines of scripts, journals and bases that break the format", "python3 tests/play_lines.py {pool}"),
     Part("picture", "the pictures of journal_picture", "python3 tests/check_picture.py {journal_picture} tests/cases"),
@@ -66,7 +63,6 @@ PARTS = (
          "python3 tests/play_archive.py {example_archive} crates/example_archive/stdout {pool}"),
     Part("bank", "the example over SQLite, its accounts and its journal", "python3 tests/play_bank.py {example_bank} {pool} {journal_picture} 3"),
     Part("terminal", "progress and hints at a terminal", "python3 tests/play_terminal.py {pool}"),
-    Part("metrics", "the reader of the pools' metrics refuses what the OpenMetrics format forbids", "python3 tests/openmetrics.py"),
     Part("pages", "what the pages name is there, the code that they show is compiled code, and their tables and pictures agree with the sources",
          "python3 tests/check_pages.py"),
     Part("version", "all products have one version", "python3 tests/check_version.py {pool} {judge} {journal_picture}"),
@@ -82,14 +78,10 @@ PARTS = (
          "python3 tests/play_release.py .", ("pool", "judge", "journal_picture", "zuphinka")),
 )
 
-# The parts of `./check quick` alone: a whole check has others, which test the same and more.
-QUICK_ALONE = (
-    Part("unproved", "worked cases on the program without its proofs", "python3 tests/play_unproved.py tests/cases/worked"),
-    Part("rust-model", "the Rust crate, with a model of the pool in place of the program",
-         "python3 tests/check_rust.py tests/model_program.py tests/model_program.py", ("zuphinka",), folders=CARGO),
-)
-# All parts of `./check quick`, which needs no proof and takes less than five minutes.
-QUICK = ("unproved", "rust-model", "case-files", "metrics", "pages")
+# The part of `./check quick` alone: a whole check has others, which test the same and more.
+UNPROVED = Part("unproved", "worked cases on the program without its proofs", "python3 tests/play_unproved.py tests/cases/worked")
+# All parts of `./check quick`, which proves nothing and takes less than five minutes.
+QUICK = (UNPROVED.name, "rust", "case-files", "pages")
 
 JARS, CRATES = "/usr/share/java", "/usr/share/cargo/registry"
 PLUGINS = "/usr/share/maven-repo/org/apache/maven/plugins"
@@ -107,8 +99,9 @@ PACKAGES = (
     Package("make", "make", ("c-install", "commands")),
     Package("pkgconf", "pkg-config", ("c-install", "release")),
     # The cargo of Debian 12's package of that name is older than the Rust crate allows.
-    Package("cargo-web", "cargo", ("rust", "rust-model", "commands", "soak", "release", "postgres")),
-    Package("librust-tokio-dev", f"{CRATES}/tokio-[0-9]*", ("rust", "rust-model")),
+    Package("cargo-web", "cargo", ("rust", "commands", "soak", "release", "postgres")),
+    Package("python3-prometheus-client", "/usr/lib/python3/dist-packages/prometheus_client", ("rust", "java", "c-pool", "postgres")),
+    Package("librust-tokio-dev", f"{CRATES}/tokio-[0-9]*", ("rust",)),
     Package("default-jdk-headless", "javac", IN_JAVA, "JAVA_HOME"),
     Package("libcommons-pool2-java", f"{JARS}/commons-pool2.jar", IN_JAVA, "COMMONS_POOL2"),
     Package("libcommons-dbcp2-java", f"{JARS}/commons-dbcp2.jar", ("java", "drop-in", "maven", "release", "postgres")),

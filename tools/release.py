@@ -40,7 +40,6 @@ C_EXAMPLES = ("first_loan.c", "plain_life.c", "long_life.c", "shared_life.c")
 CRATE = ("Cargo.toml", "Cargo.lock", "build.rs", "README.md", "src", "examples", "tests")
 # The section of the README for Java, which is its last.
 JAVA_SECTION = "\n## Java\n"
-COMMIT = re.compile(r"check: commit (\S+)")
 PASSED = re.compile(r"[1-9]\d* passed, 0 failed, \d+ skipped")
 # The last line of any run of ./check.
 ENDED = re.compile(r"\d+ passed, \d+ failed, \d+ skipped")
@@ -59,13 +58,10 @@ def verdict(gate, commit):
     if gate is None:
         return "not passed: no log of it was given"
     lines = gate.read_text(errors="replace").splitlines() or [""]
-    of_commit = next((found[1] for found in map(COMMIT.fullmatch, lines) if found), "none")
-    if (number := sum(1 for line in lines if ENDED.fullmatch(line))) > 1:
-        sys.exit(f"{gate}: the log of one ./check is wanted, and this is of {number}")
-    if not PASSED.fullmatch(lines[-1]):
-        sys.exit(f"{gate}: the last line of ./check that passed is 'N passed, 0 failed, K skipped', and this is {lines[-1]!r}")
-    if commit.endswith("-changed") or of_commit != commit:
-        sys.exit(f"{gate}: a check of commit {of_commit}, and here is {commit}")
+    if [line for line in lines if ENDED.fullmatch(line)] != lines[-1:] or not PASSED.fullmatch(lines[-1]):
+        sys.exit(f"{gate}: the last line of one ./check that passed is 'N passed, 0 failed, K skipped', and this is {lines[-1]!r}")
+    if commit.endswith("-changed") or f"check: commit {commit}" not in lines:
+        sys.exit(f"{gate}: not a check of commit {commit}")
     return lines[-1]
 
 

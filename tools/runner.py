@@ -3,14 +3,16 @@
 What a part writes is kept, and shown in one piece once all have ended. A build shows how far it is as it goes on.
 """
 
-import asyncio
+import concurrent.futures
 import contextlib
 import dataclasses
+import itertools
 import os
 import re
 import signal
 import subprocess
-import tempfile
+import sys
+import threading
 import time
 
 import sources
@@ -19,11 +21,11 @@ from sources import TOP
 COUNT = re.compile(r"^(\d+) passed, (\d+) failed$", re.MULTILINE)
 # A line that says what a part has skipped, and why.
 SKIPPED = re.compile(r"^skipped: (.+)$", re.MULTILINE)
-# For how long to wait before looking again, in seconds.
-PAUSE = 0.05
 # For how long a command may go on that was told to end, in seconds.
 GRACE = 10
 PROCESSORS = len(os.sched_getaffinity(0))
+# The processes of the commands that run.
+RUNNING = set()
 
 
 @dataclasses.dataclass(frozen=True)
@@ -73,53 +75,47 @@ def result_of(text, status, seconds):
     return Result(text, seconds, passed, 1, ending + ("" if counts else " and without a count"), skipped)
 
 
-async def end(process):
-    """Ends a command that still runs, and all that it has started: by an interrupt first, so that they remove their temporary files."""
-    if process.returncode is None:
-        for number in signal.SIGINT, signal.SIGKILL:
-            with contextlib.suppress(ProcessLookupError):
-                os.killpg(process.pid, number)
-            with contextlib.suppress(asyncio.TimeoutError):
-                await asyncio.wait_for(process.wait(), GRACE)
-
-
-async def run(words, show=None, environment=None):
+def run(words, show=None, environment=None):
     """Runs a command, in a session of its own, so that all that it starts can be ended with it; in this environment, or else in this process's. Calls
     `show` with each line as soon as it is written. Returns what it wrote, its status and its seconds."""
-    began, rest = time.monotonic(), ""
-    with tempfile.TemporaryFile() as log, open(f"/proc/self/fd/{log.fileno()}", encoding="utf-8", errors="replace", newline="\n") as written:
-        options = {"cwd": TOP, "stdin": subprocess.DEVNULL, "stdout": log, "stderr": log, "start_new_session": True, "env": environment}
-        process = await asyncio.create_subprocess_exec(*words, **options)
-        ended = asyncio.create_task(process.wait())
-        try:
-            while not ended.done():
-                await asyncio.wait([ended], timeout=PAUSE if show else None)
-                *lines, rest = (rest + written.read()).split("\n") if show else [rest]
-                for line in lines:
-                    show(line + "\n")
-        finally:
-            await end(process)
-        written.seek(0)
-        text = written.read()
-    if rest:
-        show(rest + "\n")
-    return text if text.endswith("\n") or not text else text + "\n", process.returncode, int(time.monotonic() - began)
+    began, lines = time.monotonic(), []
+    streams = {"stdin": subprocess.DEVNULL, "stdout": subprocess.PIPE, "stderr": subprocess.STDOUT, "encoding": "utf-8", "errors": "replace"}
+    with subprocess.Popen(words, cwd=TOP, start_new_session=True, env=environment, **streams) as process:
+        RUNNING.add(process)
+        for line in process.stdout:
+            lines.append(line.removesuffix("\n") + "\n")
+            if show:
+                show(lines[-1])
+    RUNNING.discard(process)
+    return "".join(lines), process.returncode, int(time.monotonic() - began)
+
+
+def stop(number, _):
+    """Ends the commands that run, with all that they have started, by an interrupt first, so that they remove their temporary files; and this process."""
+    for kind in signal.SIGINT, signal.SIGKILL:
+        for process in [*RUNNING]:
+            with contextlib.suppress(ProcessLookupError):
+                os.killpg(process.pid, kind)
+        until = time.monotonic() + GRACE
+        while RUNNING and time.monotonic() < until:
+            time.sleep(0.1)
+    print(f"check: ended by {signal.Signals(number).name}", file=sys.stderr, flush=True)
+    os._exit(128 + number)
 
 
 class Progress:
     """Says which part begins, of how many, and how long the work has taken."""
 
     def __init__(self, total):
-        self.total, self.at = total, 0
+        self.total, self.numbers = total, itertools.count(1)
         self.since = time.monotonic()
 
     def say(self, what):
         minutes, seconds = divmod(int(time.monotonic() - self.since), 60)
-        print(f"check: {what}, after {minutes}:{seconds:02} min")
+        print(f"check: {what}, after {minutes}:{seconds:02} min\n", end="")
 
     def begin(self, part):
-        self.at += 1
-        self.say(f"part {self.at} of {self.total}, {part.name}")
+        self.say(f"part {next(self.numbers)} of {self.total}, {part.name}")
 
 
 def is_ready(crate, gate):
@@ -130,56 +126,35 @@ def is_ready(crate, gate):
     return sources.is_current(crate)
 
 
-class Work:
-    """Parts, the crates that they need, each with whether it is built once that is known, and what came of the parts that have ended, by name."""
+def build(crate, gate, progress):
+    """Builds a crate, unless it needs no build, and shows how far that is, by the lines that begin with its name; and once it has ended in vain, its
+    other lines. Nothing is built after a gate that failed, since that replaces libraries that parts work with. Returns whether it is built."""
+    if is_ready(crate, gate) or gate is not None and gate.failed:
+        return is_ready(crate, gate)
+    head = f"{crate}: "
+    progress.say(f"build of {crate}")
+    text, status, _ = run([sys.executable, "tools/build.py", crate], lambda line: line.startswith(head) and print(line, end=""))
+    if status:
+        others = [line for line in text.splitlines(keepends=True) if not line.startswith(head)]
+        print(f"{''.join(others)}{head}not built")
+    return not status
 
-    def __init__(self, parts, progress, gate):
-        self.parts, self.progress, self.gate, self.results = parts, progress, gate, {}
-        self.ready, self.left = asyncio.PriorityQueue(), len(parts)
-        self.built = {crate: asyncio.Future() for part in parts for crate in part.needs}
-        for crate in [crate for crate in self.built if is_ready(crate, gate)]:
-            self.built[crate].set_result(True)
 
-    async def build(self):
-        """Builds what is needed, one crate at a time; nothing after a gate that failed, since a build replaces the libraries that parts work with."""
-        for crate in [crate for crate, built in self.built.items() if not built.done()]:
-            gate_failed = self.gate is not None and self.gate.failed
-            self.built[crate].set_result(is_ready(crate, self.gate) or not gate_failed and await self.build_one(crate))
+def run_all(parts, progress, gate):
+    """Runs all parts, those first that are first in the table, each as soon as what it needs is built, one crate at a time. Returns their results by
+    name."""
+    slots, needed = threading.Semaphore(PROCESSORS), dict.fromkeys(crate for part in parts for crate in part.needs)
 
-    async def build_one(self, crate):
-        """Builds a crate, and shows how far that is, by the lines that begin with its name; and once it has ended in vain, its other lines."""
-        head = f"{crate}: "
-        self.progress.say(f"build of {crate}")
-        text, status, _ = await run(["python3", "tools/build.py", crate], lambda line: line.startswith(head) and print(line, end=""))
-        if status:
-            others = [line for line in text.splitlines(keepends=True) if not line.startswith(head)]
-            print(f"{''.join(others)}{head}not built")
-        return not status
-
-    async def pass_on(self, place, part):
-        """Passes on a part once what it needs is built, or can't be built."""
-        self.ready.put_nowait((place, part, [crate for crate in part.needs if not await self.built[crate]]))
-
-    async def play(self, builds_first):
-        """Plays parts as they are ready, those first that are first in the table."""
-        if builds_first:
-            await self.build()
-        while self.left:
-            self.left -= 1
-            _, part, lost = await self.ready.get()
-            if lost:
-                self.results[part.name] = Result("", 0, 0, 1, f"not run, since {lost[0]} can't be built")
-                continue
+    def play(part):
+        lost = [crate for crate in part.needs if not built[crate].result()]
+        if lost:
+            return Result("", 0, 0, 1, f"not run, since {lost[0]} can't be built")
+        with slots:
             for folder in part.folders:
                 (TOP / folder).mkdir(parents=True, exist_ok=True)
-            self.progress.begin(part)
-            self.results[part.name] = result_of(*await run(part.words()))
+            progress.begin(part)
+            return result_of(*run(part.words()))
 
-    async def run(self):
-        """Runs all parts, and returns their results by name."""
-        async with asyncio.TaskGroup() as tasks:
-            for place, part in enumerate(self.parts):
-                tasks.create_task(self.pass_on(place, part))
-            for number in range(PROCESSORS):
-                tasks.create_task(self.play(number == 0))
-        return self.results
+    with concurrent.futures.ThreadPoolExecutor(1) as builder, concurrent.futures.ThreadPoolExecutor(len(parts) + 1) as players:
+        built = {crate: builder.submit(build, crate, gate, progress) for crate in sorted(needed, key=lambda crate: not is_ready(crate, gate))}
+        return dict(zip((part.name for part in parts), players.map(play, parts)))

@@ -1,6 +1,5 @@
 """Says by checksums whether what is built of a crate is still that of its sources: the files of src/, specs/ and proofs/ of the crate and of all
-below it, their lines of crates.txt, HANDLES, and the kit by its line of `rt version`. Times, other files and other crates don't count, nor what editors
-keep beside a file.
+below it, their lines of crates.txt, HANDLES, and the kit by its line of `rt version`. Times, other files and other crates don't count.
 
 A note is kept in out/built/, and holds for a copy of the whole folder too. `rt ci` leaves programs, no static libraries, and libraries that have only
 their statements, which are taken over. Libraries with a stamp are of the kit's other commands.
@@ -9,7 +8,6 @@ their statements, which are taken over. Libraries with a stamp are of the kit's 
 import functools
 import hashlib
 import pathlib
-import re
 import shutil
 import subprocess
 
@@ -17,8 +15,6 @@ TOP = pathlib.Path(__file__).resolve().parent.parent
 NOTES = TOP / "out" / "built"
 # The folders of a crate that `rt` reads to prove and to build it.
 PARTS = ("src", "specs", "proofs")
-# The names of what editors keep beside a file: what is not saved yet, and what it was before.
-OF_EDITORS = re.compile(r"\..*\.sw[a-z]|.*~|#.*#")
 # The edit of a crate that makes a mistake in each of several functions.
 MISTAKES = "one_mistake_in_each"
 
@@ -121,7 +117,7 @@ def sum_of_files(files, folder):
 def sum_of_sources(crate):
     """The checksum of all that a crate is proved and built of, but the kit."""
     folder = TOP / "crates" / crate
-    own = sum_of_files([path for part in PARTS for path in files_of(folder / part) if not OF_EDITORS.fullmatch(path.name)], folder)
+    own = sum_of_files([path for part in PARTS for path in files_of(folder / part)], folder)
     line = [*declared()[crate][0].split(), ":", *declared()[crate][1].split()]
     parts = [own, " ".join(line), (TOP / "HANDLES").read_text(), *map(sum_of_sources, libraries()[crate])]
     return hashlib.sha256("\n".join(parts).encode()).hexdigest()
