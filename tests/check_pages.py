@@ -5,7 +5,7 @@ check_pages.py  The last line is 'N passed, M failed'.
 Each file, folder and heading that a page names or links to exists. Each single name between backquotes is a word of some source. A name beside a source,
 as in "`name` in `file`", "`name` (`file`)" or a row of a table with a column "File", is declared there, and so is each clause that docs/proved.md names.
 A block of Rust, C or Java is one contiguous piece of a file that is compiled, but for its indentation. README.md has at most 90 lines. The settings have
-the defaults of the definitions, and the pictures of crates.txt and docs/concepts.md show what these say.
+the defaults of the definitions.
 """
 
 import functools
@@ -15,7 +15,6 @@ import tomllib
 
 from playing import TOP, play_checks
 
-import draw_graphs
 import java
 
 DOCS, README, BINDINGS = TOP / "docs", TOP / "README.md", [TOP / f"bindings/{name}/README.md" for name in ("java", "rust")]
@@ -139,8 +138,6 @@ def checks():
     shown |= {f"abandoned.{key}": value for key, value in shown.pop("abandoned").items()}
     yield "docs/settings.md: the defaults", dict(defaults()), {key: tomllib.loads(f"x = {value}")["x"] for key, value in rows}
     yield "examples/settings.toml: the defaults", dict(defaults()), shown
-    for draw, source in (draw_graphs.crates, TOP / "crates.txt"), (draw_graphs.life, DOCS / "concepts.md"):
-        yield f"the picture of {source.name}", draw(source.read_text()).wanted(), draw_graphs.shown((DOCS / f"pictures/{draw.__name__}.svg").read_text())
     rust = tomllib.loads((TOP / "bindings/rust/Cargo.toml").read_text())["package"]["rust-version"]
     needed = f"Java {java.RELEASE} or later", f"Rust {rust} or later", f"Version {(TOP / 'VERSION').read_text().strip()} "
     yield "README.md: versions that it lacks", [], [version for version in needed if version not in README.read_text()]

@@ -12,7 +12,7 @@ import tempfile
 
 from case_files import TOP, unpacked
 
-sys.path += [str(TOP / folder) for folder in ("tools", "bench", "docs/pictures")]
+sys.path += [str(TOP / folder) for folder in ("tools", "bench")]
 
 from parts import PACKAGES
 

@@ -63,7 +63,7 @@ PARTS = (
          "python3 tests/play_archive.py {example_archive} crates/example_archive/stdout {pool}"),
     Part("bank", "the example over SQLite, its accounts and its journal", "python3 tests/play_bank.py {example_bank} {pool} {journal_picture} 3"),
     Part("terminal", "progress and hints at a terminal", "python3 tests/play_terminal.py {pool}"),
-    Part("pages", "what the pages name is there, the code that they show is compiled code, and their tables and pictures agree with the sources",
+    Part("pages", "what the pages name is there, the code that they show is compiled code, and their tables agree with the sources",
          "python3 tests/check_pages.py"),
     Part("version", "all products have one version", "python3 tests/check_version.py {pool} {judge} {journal_picture}"),
     Part("c-cases", "the cases on the C library", "python3 tests/play_library.py cases {zuphinka} tests/cases"),
