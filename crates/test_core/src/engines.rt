@@ -15,7 +15,6 @@ use pool_engines::{EngineFault, FileFault, Sink, Source};
 use pool_settings::Settings;
 use pool_stats::Statistics;
 use std::alloc::Global;
-use std::slice;
 
 /// Plays a script.
 pub fn run<R: Source, W: Sink>(
@@ -27,14 +26,14 @@ pub fn run<R: Source, W: Sink>(
     pool_engines::run(alloc, settings, reader, writer)
 }
 
-/// Checks a journal in one file.
+/// Checks a journal in files.
 pub fn check<R: Source, W: Sink>(
     alloc: Global,
     settings: Settings,
-    reader: &mut R,
+    readers: &mut [R],
     writer: &mut W,
 ) -> Result<bool, EngineFault> {
-    pool_engines::check(alloc, settings, slice::from_mut(reader), writer)
+    pool_engines::check(alloc, settings, readers, writer)
 }
 
 /// Writes the statistics of a journal.

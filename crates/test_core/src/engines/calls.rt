@@ -64,9 +64,9 @@ fn bytes_are_gathered(rt: HostRuntime) {
 }
 
 fn is_judged_in_one_write(rt: &impl Abort, alloc: Global, journal: &str) {
-    let mut reader = CountedReader::new(journal.as_bytes(), 0);
+    let mut files = [CountedReader::new(journal.as_bytes(), 0)];
     let mut writer = CountedWriter::new(alloc, 0);
-    let found = check(alloc, Settings::default(), &mut reader, &mut writer);
+    let found = check(alloc, Settings::default(), &mut files, &mut writer);
     let found = (found.is_ok(), writer.handed());
     is_at(rt, journal, found, (true, ONE_WRITE));
 }
@@ -104,10 +104,10 @@ fn no_whole_line_is_no_request(rt: HostRuntime) {
 #[test]
 fn nothing_is_read_after_a_wrong_answer(rt: HostRuntime) {
     let mut reported = Vec::new(rt.alloc());
-    let mut wrong = Endless::new(b"0 0 borrow 0 = wait\n");
+    let mut wrong = [Endless::new(b"0 0 borrow 0 = wait\n")];
     let found = check(rt.alloc(), Settings::default(), &mut wrong, &mut reported);
     let illegal = b"illegal 0 make 0\n".as_slice();
-    let found = (found, wrong.reads(), reported.as_slice());
+    let found = (found, wrong[0].reads(), reported.as_slice());
     is(&rt, found, (Ok(false), 1, illegal));
 }
 
@@ -179,10 +179,10 @@ fn no_more_of_a_journal_is_read_than_the_limit_allows(rt: HostRuntime) {
     let mut journal = repeated(&rt, rt.alloc(), "0 0 close = count 0\n", 1);
     let more = repeated(&rt, rt.alloc(), "0 0 close = nothing\n", 10_000);
     journal.extend_from_slice(&more).expect(&rt, "lines");
-    let mut reader = CountedReader::new(&journal, 0);
-    let found = check(rt.alloc(), with_limit(7), &mut reader, &mut reported);
+    let mut files = [CountedReader::new(&journal, 0)];
+    let found = check(rt.alloc(), with_limit(7), &mut files, &mut reported);
     is(&rt, found, Err(EngineFault::Full(8)));
-    is_asked_for_eight_lines(&rt, &reader);
+    is_asked_for_eight_lines(&rt, &files[0]);
     let mut reader = CountedReader::new(&journal, 0);
     let tallied = stats_of_at_most(rt.alloc(), 7, &mut reader, &mut reported);
     is(&rt, tallied, Err(EngineFault::Full(8)));
@@ -242,8 +242,8 @@ fn signals_are_no_fault_of_settings(rt: HostRuntime) {
 #[test]
 fn a_journal_in_pieces_is_read_to_its_end_once(rt: HostRuntime) {
     let written = Cell::new(0);
-    let mut reader = Pieces::new(PLAIN_LIFE.as_bytes(), 24, &written);
+    let mut files = [Pieces::new(PLAIN_LIFE.as_bytes(), 24, &written)];
     let mut reported = Vec::new(rt.alloc());
-    let found = check(rt.alloc(), Settings::default(), &mut reader, &mut reported);
-    is(&rt, (found, reader.reads()), (Ok(true), 6));
+    let found = check(rt.alloc(), Settings::default(), &mut files, &mut reported);
+    is(&rt, (found, files[0].reads()), (Ok(true), 6));
 }

@@ -105,7 +105,7 @@ fn what_stands_after_a_failed_write(rt: HostRuntime) {
 #[test]
 fn an_empty_file_is_legal(rt: HostRuntime) {
     let mut reported = Vec::new(rt.alloc());
-    let mut empty: &[u8] = &[];
+    let mut empty: [&[u8]; 1] = [&[]];
     let found = check(rt.alloc(), with_limit(7), &mut empty, &mut reported);
     let legal = b"legal 0\n".as_slice();
     is(&rt, (found, reported.as_slice()), (Ok(true), legal));

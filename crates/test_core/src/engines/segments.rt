@@ -1,9 +1,10 @@
 //! A check of a journal in several files.
 
+use crate::engines::check;
 use crate::engines::outcomes::is_at;
 use crate::engines::scripts::with_limit;
 use crate::engines::streams::Pieces;
-use pool_engines::{EngineFault, check};
+use pool_engines::EngineFault;
 use pool_journal::LineFault;
 use std::alloc::Global;
 use std::cell::Cell;
