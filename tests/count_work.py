@@ -5,8 +5,8 @@
 POOL is the program. Its allocations, the bytes that it holds, its reads and its writes are counted by a preloaded library
 (tests/count.c, built with the C compiler that CC names, or cc). Reads and writes must be within bounds that follow from the size of the buffers, the
 bytes within a quarter of what is said below of buffers and objects, and allocations few, however many lines and objects there are. Segments that are
-judged side by side must each be read once, so what was found of them ahead must be used: a segment that was judged again would be read twice. Each
-file must be opened once; those after the first 500 are opened before any is judged, and again for their base and for their lines.
+judged side by side must each be read once, so what was found of them ahead must be used: a segment that was judged again would be read twice. Each file
+of a check is opened once to see that it is there, once to be read, and once more if its base is read apart from its lines. None stays open.
 
 TALLY is the test program crates/test_counts, which cuts a pool of 100,000 objects, reads the base that tests/pool_model.py tells, compares
 and prints it, and opens a pool from it, which goes on as the model does. The allocations of each of these calls are counted.
@@ -25,8 +25,8 @@ from pool_model import settings_of
 # The buffer for what comes, that for what waits to be written, and the longest line. At most so many bytes less are read at once.
 BUFFER = 65_536
 LINE = 256
-# The longest settings file with one byte more, for which there is room while it is read.
-SETTINGS = 1_048_577
+# The longest settings file with one byte more, for which there is room while it is read, and how much of it is read at once.
+SETTINGS, CHUNK = 1_048_577, 4_096
 # An object: the seven numbers and marks of its record, its value with the mark whether there is one, and its two links in the
 # queue, whose marks share a word; and its place in the index: its id, its key, and a mark.
 OBJECT = (7 + 2 + 3) * 8 + 3 * 8
@@ -38,8 +38,8 @@ MOST_ALLOCATIONS = 200
 # at least seven.
 OBJECTS = 100_000
 CALLS = {"step": OBJECTS, "cut": 2, "read": 17, "print": 20, "open": 25 + OBJECTS // 7, "goon": OBJECTS}
-# How many files stay open until the check ends.
-KEPT = 500
+# How often a command opens its files, if the text is in one file: the settings and the text, which a check opens twice.
+OPENED = {"run": 2, "check": 3, "stats": 1}
 
 
 def scripts():
@@ -83,14 +83,14 @@ class Counter:
         name, most = f"{command} of {name}", 2 * BUFFER if command == "stats" else max(OBJECT * 2 * idle + 2 * BUFFER, SETTINGS)
         self.expect(f"{name}: allocations", counted["allocations"], 1, MOST_ALLOCATIONS)
         self.expect(f"{name}: bytes held", counted["most"], 1, most * 5 // 4)
-        self.expect(f"{name}: files opened", counted["opened"], 2 - (command == "stats"), 2 - (command == "stats"))
+        self.expect(f"{name}: files opened", counted["opened"], OPENED[command], OPENED[command])
         self.streams(name, command, counted, len(text), len(journal))
 
     def streams(self, name, command, counted, text, journal):
         """Reads and writes: the settings are read once, and to their end; then the text, by whole buffers but for a piece of a line."""
         settings = 0 if command == "stats" else 2
         self.expect(f"{name}: reads", counted["reads"] - settings, text // BUFFER + 1, text // (BUFFER - LINE) + 2)
-        self.expect(f"{name}: least room for a read", counted["room"], BUFFER - LINE, SETTINGS)
+        self.expect(f"{name}: least room for a read", counted["room"], CHUNK if settings else BUFFER - LINE, BUFFER)
         self.expect(f"{name}: reads at the end", counted["ends"], 1 + settings // 2, 1 + settings // 2)
         if command == "run":
             # What waits is written where it fills the buffer, and before each read.
@@ -142,19 +142,18 @@ def write_segments(counter, segments, uses):
 
 def play_side_by_side(counter):
     """Legal segments: each is read once, but for the front of it in which its base is looked for."""
-    for segments, uses in (12, 40_000), (KEPT + 100, 100):
+    for segments, uses in (12, 40_000), (600, 100):
         names, size = write_segments(counter, segments, uses)
         counted, name = counter.count(["check", "settings.toml", *names]), f"{segments} segments side by side"
         counter.expect(f"{name}: bytes read", counted["read"], size, size + segments * BUFFER + SETTINGS)
-        opened, again = 1 + segments, max(0, segments - KEPT)
         # On one processor a base is compared as it is read.
-        counter.expect(f"{name}: files opened", counted["opened"], opened + again, opened + 2 * again)
-    # An error in the last of several segments: no file is opened again to find out which one it is in.
+        counter.expect(f"{name}: files opened", counted["opened"], 1 + 2 * segments, 1 + 3 * segments)
+    # An error in the last of several segments: that one alone is opened again, to be read up to the error.
     names, _ = write_segments(counter, 12, 100)
     with (counter.folder / names[-1]).open("a") as last:
         last.write("no line\n")
     counted = counter.count(["check", "settings.toml", *names], status=3)
-    counter.expect("12 segments, the last not to its end: files opened", counted["opened"], 13, 13)
+    counter.expect("12 segments, the last not to its end: files opened", counted["opened"], 1 + 2 * 12, 2 + 3 * 12)
 
 
 def counts_of(pool):
