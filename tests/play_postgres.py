@@ -39,7 +39,7 @@ from install import POOL, heap_of_kit
 
 CONNECTIONS = 4
 # For how long an example transfers, in seconds. Its failures take some eleven.
-SECONDS = 60
+SECONDS = 40
 # How long it may take to begin and to end, in seconds.
 SLACK = 120
 # How soon a transfer begins after a failure, in seconds, in one of how many tries.
