@@ -5,13 +5,12 @@ on the PATH and without a network for cargo.
 
 CLONE is the top of a clone in which the programs and the C library are built. The commands of the README must build and run the examples in C, Rust
 and Java, whose output is compared, and their journals are checked by the program of the archive. The jar must have what tests/play_java.py wants of
-it. The checksums must be those of all files. Two archives must have the same bytes, and a log of ./check of another commit must be refused. If no cargo
-runs, or Java has no JDK or lacks a jar, its examples are skipped, with the reason.
+it. The checksums must be those of all files. Two archives must have the same bytes, and a log of ./check of another commit must be refused. Where no cargo
+runs, or an example in Java lacks a jar, that is skipped, with the reason; all is where there is no JDK or no Commons Pool.
 
 Prints each thing that differs, and in the end the line 'N passed, M failed'.
 """
 
-import functools
 import os
 import pathlib
 import re
@@ -19,7 +18,7 @@ import sys
 import tarfile
 
 import playing
-from play_java import BANK, EXAMPLE_JARS, java, portable
+from play_java import BANK, EXAMPLE_JARS, portable
 from play_library import PLAIN_LIFE, TOP
 from playing import NO_CARGO, ended, has, play_checks, scratch, skip, stored_journal
 
@@ -32,15 +31,6 @@ THREADS, ROUNDS = 4, 500
 BLOCK = re.compile(r"(?:^    .*\n)+", flags=re.MULTILINE)
 
 
-@functools.cache
-def missing_for_java():
-    """Says what is missing to make the jar, with its package; None if nothing is."""
-    try:
-        java.jdk(), java.commons_pool()
-    except java.Missing as missing:
-        return str(missing)
-
-
 def shell(line, folder):
     """What a command in a folder writes, and its status. The folder of `rt` is not on its path."""
     environment = {name: value for name, value in os.environ.items() if not name.startswith(("ZUPHINKA_", "CARGO_TARGET"))}
@@ -50,9 +40,8 @@ def shell(line, folder):
 
 
 def release(clone, folder, *words):
-    """Makes an archive, without Java if something is missing for that here."""
-    command = [sys.executable, TOP / "tools/release.py", "--programs", clone, "--output", folder, *words]
-    return playing.run(*command, *["--without-java"] * (missing_for_java() is not None), text=True)
+    """Makes an archive."""
+    return playing.run(sys.executable, TOP / "tools/release.py", "--programs", clone, "--output", folder, *words, text=True)
 
 
 def checksums(top):
@@ -85,9 +74,7 @@ def commands(top):
 
 
 def java_part(top):
-    """The jar, and the examples in Java. They are skipped if something is missing."""
-    if missing_for_java():
-        return skip("the jar and the Java examples of the archive", missing_for_java())
+    """The jar, and the examples in Java."""
     yield from portable(top / "java/zuphinka.jar")
     section = (top / "README.md").read_text().partition("\n## Java\n")[2]
     wanted = {"servers": (ANSWERED, ["libcommons-pool2-java"]), "bank": (BANK.encode(), EXAMPLE_JARS.values())}
@@ -130,7 +117,8 @@ def trials(clone, folder):
 
 def main(clone):
     with scratch() as folder:
-        return play_checks(trials(pathlib.Path(clone).resolve(), folder))
+        is_possible = has("the archive of a release", "default-jdk-headless", "libcommons-pool2-java")
+        return play_checks(trials(pathlib.Path(clone).resolve(), folder) if is_possible else ())
 
 
 if __name__ == "__main__":

@@ -1,6 +1,6 @@
 """Makes an archive of what users take, which needs no proof toolchain: zuphinka-VERSION-linux-x86_64.tar.gz.
 
-    tools/release.py [--gate FILE] [--output FOLDER] [--programs FOLDER] [--without-java]
+    tools/release.py [--gate FILE] [--output FOLDER] [--programs FOLDER]
 
 The archive has the C library with its headers and its files for pkg-config, the Rust crate and the jar for Java, each with the library in it, the
 programs pool, judge and journal_picture, the man page, examples, the licence, a README, and PROVED. That file has what ./check came to, the commit,
@@ -11,8 +11,7 @@ much was skipped stands in PROVED. A check of named parts tells no commit, and w
 FOLDER gets the archive, else the folder out/. What isn't built of its sources as they are is proved and built first. With --programs FOLDER what a
 clone there has built is taken as it is, and PROVED says that.
 
-The jar needs a JDK and Commons Pool 2, as tools/java.py finds them. With --without-java the archive and its README have nothing for Java, and PROVED
-says that.
+The jar needs a JDK and Commons Pool 2, as tools/java.py finds them.
 
 The same commit, programs and compilers give the same bytes. Writes the path of the archive. The status is 1, and no archive is there, if something
 is missing or the log isn't one of a full check that passed.
@@ -38,8 +37,6 @@ LIBRARY = "zuphinka"
 C_EXAMPLES = ("first_loan.c", "plain_life.c", "long_life.c", "shared_life.c")
 # What the Rust crate is without its tests, which want the repository.
 CRATE = ("Cargo.toml", "Cargo.lock", "build.rs", "README.md", "src", "examples", "tests")
-# The section of the README for Java, which is its last.
-JAVA_SECTION = "\n## Java\n"
 PASSED = re.compile(r"[1-9]\d* passed, 0 failed, \d+ skipped")
 # The last line of any run of ./check.
 ENDED = re.compile(r"\d+ passed, \d+ failed, \d+ skipped")
@@ -118,14 +115,9 @@ def lay_out_java(stage, programs):
             shutil.copy(file, folder)
 
 
-def describe(stage, has_java):
-    """Writes the README."""
-    text = (TOP / "tools/release_readme.txt").read_text().replace("VERSION", install.version(), 1)
-    (stage / "README.md").write_text(text if has_java else text.partition(JAVA_SECTION)[0])
-
-
-def unlink(stage):
-    """Takes out of the pages the links to what the archive has not. Their words stay."""
+def describe(stage):
+    """Writes the README, and takes out of the pages the links to what the archive has not. Their words stay."""
+    (stage / "README.md").write_text((TOP / "tools/release_readme.txt").read_text().replace("VERSION", install.version(), 1))
     for page in stage.rglob("*.md"):
         page.write_text(LINK.sub(lambda link: link[0 if (page.parent / link[2]).exists() else 1], page.read_text()))
 
@@ -152,21 +144,17 @@ def main():
     words.add_argument("--gate", type=pathlib.Path, help="the log of ./check")
     words.add_argument("--output", type=pathlib.Path, default=TOP / "out", help="the folder that gets the archive")
     words.add_argument("--programs", type=pathlib.Path, help="a clone in which all is built")
-    words.add_argument("--without-java", action="store_true", help="leave out the pool for Java")
     given = words.parse_args()
-    if not given.without_java:
-        try:
-            java.jdk(), java.commons_pool()
-        except java.Missing as missing:
-            sys.exit(f"java: {missing}; --without-java makes an archive without the pool for Java")
+    try:
+        java.jdk(), java.commons_pool()
+    except java.Missing as missing:
+        sys.exit(f"java: {missing}")
     commit = sources.checked_out() or sys.exit(f"{TOP}: no commit is checked out")
     said = verdict(given.gate, commit)
     if given.programs is None:
         build()
     else:
         said += "; the programs were taken as they were built"
-    if given.without_java:
-        said += "; without the pool for Java"
     name = f"zuphinka-{install.version()}-linux-x86_64"
     archive = given.output.resolve() / f"{name}.tar.gz"
     archive.parent.mkdir(parents=True, exist_ok=True)
@@ -175,10 +163,8 @@ def main():
         stage.mkdir()
         programs = (given.programs or TOP).resolve()
         lay_out(stage, programs)
-        if not given.without_java:
-            lay_out_java(stage, programs)
-        describe(stage, not given.without_java)
-        unlink(stage)
+        lay_out_java(stage, programs)
+        describe(stage)
         prove(stage, said, commit)
         pack(stage, archive)
     print(archive)
