@@ -1,7 +1,6 @@
 //! A caller that makes random calls, and marks them.
 
 use crate::TRIES;
-use crate::dice::Dice;
 use crate::error::SeedError;
 use crate::judging::Played;
 use crate::marks::{Mark, reports};
@@ -11,6 +10,8 @@ use pool_journal::{Entry, Segment};
 use pool_shared::{
     AddFault, BorrowFault, Caller, Lent, PoolFault, ReturnFault, Returned, Room, SharedPool,
 };
+use rand::RngExt;
+use rand_pcg::Pcg32;
 use std::alloc::{AllocError, Global};
 use std::sync::{Mutex, Wait};
 
@@ -44,7 +45,7 @@ pub struct Player<'a, B: Room> {
     refusals: Refusals,
     end: Result<(), SeedError>,
     alloc: Global,
-    dice: Dice,
+    generator: Pcg32,
     manner: Manner,
     held: Vec<Lent<Thing>>,
     segments: &'a Segments,
@@ -59,7 +60,7 @@ impl<'a, B: Room> Player<'a, B> {
         manner: Manner,
         segments: &'a Segments,
     ) -> Result<Player<'a, B>, AllocError> {
-        let dice = Dice::new(seed, u64::from(me.number()));
+        let generator = Pcg32::new(seed, u64::from(me.number()));
         let mut marks = Vec::new(alloc);
         marks.reserve(MARKS)?;
         let mut held = Vec::new(alloc);
@@ -71,7 +72,7 @@ impl<'a, B: Room> Player<'a, B> {
             refusals: Refusals::none(),
             end: Ok(()),
             alloc,
-            dice,
+            generator,
             manner,
             held,
             segments,
@@ -134,7 +135,7 @@ impl<'a, B: Room> Player<'a, B> {
         if count == 0 {
             return None;
         }
-        let place = self.dice.roll(count as u64) as usize;
+        let place = self.generator.random_range(0..count);
         Some(self.held.swap_remove(place))
     }
 
@@ -335,7 +336,7 @@ impl<'a, B: Room> Player<'a, B> {
         let Some(lent) = self.pick() else {
             return self.borrow(rt, pool);
         };
-        match self.dice.roll(16) {
+        match self.generator.random_range(0..16) {
             0..=10 => self.give_back(rt, pool, lent),
             11..=12 => self.invalidate(rt, pool, lent),
             13..=14 => self.touch(rt, pool, lent),
@@ -345,7 +346,7 @@ impl<'a, B: Room> Player<'a, B> {
 
     // Makes a rare call. Now and then it closes the pool.
     fn call_seldom<R: Wait>(&mut self, rt: &R, pool: &Pool<B>) -> Result<(), SeedError> {
-        match self.dice.roll(3_000) {
+        match self.generator.random_range(0..3_000) {
             0 => self.close(rt, pool),
             1..=500 => self.clear(rt, pool),
             501..=1_000 => self.cut(rt, pool),
@@ -357,7 +358,7 @@ impl<'a, B: Room> Player<'a, B> {
     }
 
     fn call<R: Wait>(&mut self, rt: &R, pool: &Pool<B>) -> Result<(), SeedError> {
-        match self.dice.roll(24) {
+        match self.generator.random_range(0..24) {
             0..=7 => self.borrow(rt, pool),
             8..=16 => self.call_with_one(rt, pool),
             17 => self.add(rt, pool),
@@ -389,7 +390,7 @@ impl<'a, B: Room> Player<'a, B> {
         for _ in 0..CALLS {
             self.call(rt, pool)?;
         }
-        if self.dice.roll(4) == 0 {
+        if self.generator.random_range(0..4) == 0 {
             self.close(rt, pool)?;
         }
         self.give_all_back(rt, pool)
@@ -413,7 +414,7 @@ impl<'a, B: Room> Player<'a, B> {
             refusals,
             end,
             alloc: _,
-            dice: _,
+            generator: _,
             manner: _,
             held: _,
             segments: _,

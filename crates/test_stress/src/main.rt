@@ -12,7 +12,6 @@ ghost use Rattle.std.specs.Prelude.{◌≡◌};
 
 mod again;
 mod calling;
-mod dice;
 mod error;
 mod judging;
 mod marks;

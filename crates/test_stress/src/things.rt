@@ -1,8 +1,9 @@
 //! The objects, and a factory that fails now and then.
 ghost use Rattle.std.specs.Prelude.{◌≡◌, true, false};
 
-use crate::dice::Dice;
 use pool_shared::{Clock, Factory};
+use rand::RngExt;
+use rand_pcg::Pcg32;
 use std::sync::atomic::{AtomicU64, Ordering};
 use std::thread;
 
@@ -53,11 +54,11 @@ impl Fickle<'_> {
     // Returns whether a call fails. Now and then other threads run first.
     fn fails(&self) -> bool {
         let call = self.tally.calls.fetch_add(1, Ordering::SeqCst);
-        let mut dice = Dice::new(self.seed, call);
-        if dice.roll(YIELDS_OF) == 0 {
+        let mut generator = Pcg32::new(self.seed, call);
+        if generator.random_range(0..YIELDS_OF) == 0 {
             thread::yield_now();
         }
-        dice.roll(FAILS_OF) == 0
+        generator.random_range(0..FAILS_OF) == 0
     }
 }
 
