@@ -1,7 +1,10 @@
 -- The effect of a step on a pool.
-use Rattle.std.specs.Prelude.{◌≡◌, ℕ, [], ◌∷◌, ◌++◌, Option}
+use Rattle.std.specs.Prelude.{◌≡◌, ℕ, [], ◌∷◌, ◌++◌, Option, Some, None}
 use Rattle.pool_journal.specs.declared.input.Input.{Input}
+use Rattle.pool_journal.specs.declared.input.Input.TheVariants.{Borrow, Ready, GiveBack, Park}
+use Rattle.pool_journal.specs.declared.input.Outcome.TheVariants as outcomes
 use Rattle.pool_journal.specs.declared.answer.Answer.{Answer}
+use Rattle.pool_journal.specs.declared.answer.Answer.TheVariants as answers
 use Rattle.pool_core.specs.declared.step_fault.StepFault.{StepFault}
 use Rattle.pool_core.specs.declared.step_fault.StepFault.TheVariants.{JournalFull, OutOfMemory}
 use Rattle.pool_core.specs.Reply.{reply_from}
@@ -19,6 +22,18 @@ pub record Answered {T : Type 0} (caller at : ℕ) (input : Input) (handed : Opt
   pub settings_stay : new.settings ≡ old.settings
   pub base_stays : new.base ≡ old.base
   pub transfers : TransfersValue answer input old.places new.places handed out
+
+-- an idle object is lent by the two steps of a borrow
+pub record LendsIdle {T : Type 0} (caller at began id : ℕ) (old new : CoreModel T) (value : T) : Type 0 where
+  pub mid : CoreModel T
+  pub taken : Answered caller at (Borrow began) None old mid (answers.Take id) (Some value)
+  pub lent : Answered caller at (Ready id outcomes.Good) None mid new answers.Lent None
+
+-- a lent object is idle again by the two steps of a return
+pub record ParksLent {T : Type 0} (caller at id : ℕ) (old new : CoreModel T) (value : T) : Type 0 where
+  pub mid : CoreModel T
+  pub checked : Answered caller at (GiveBack id) None old mid answers.Check None
+  pub parked : Answered caller at (Park id outcomes.Good) (Some value) mid new answers.Parked None
 
 -- the journal is full exactly if the expected entry does not fit, and the value passed in is returned
 abbrev pub Faulted : {T : Type 0} → ℕ → ℕ → Input → Option T → CoreModel T → StepFault T → Type 0

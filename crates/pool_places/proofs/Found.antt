@@ -48,6 +48,20 @@ records_changed {T} i f t (p ∷ ps) is = by_test (i == p.known.id) (records_cha
     by_test true later = λ x. is p x ∷ later x
     by_test false later = ap (λ ks. p.known ∷ ks) later
 
+-- two changes of an object, one after the other
+pub changed_twice : {T : Type 0} (i : ℕ) (f g : Place T → Place T) (ps : List (Place T)) → ((p : Place T) → (f p).known.id ≡ p.known.id)
+    → changed i (λ p. g (f p)) ps ≡ changed i g (changed i f ps)
+changed_twice i f g [] same = refl
+changed_twice {T} i f g (p ∷ ps) same = by_test (i == p.known.id) refl (changed_twice i f g ps same)
+  where
+    by_test : (b : Bool) → (i == p.known.id) ≡ b → changed i (λ p. g (f p)) ps ≡ changed i g (changed i f ps)
+        → (if b then g (f p) else p) ∷ changed i (λ p. g (f p)) ps ≡ changed i g ((if b then f p else p) ∷ changed i f ps)
+    by_test true is later =
+        ap (λ ks. g (f p) ∷ ks) later
+        ∙ ap (λ (t : Bool). (if t then g (f p) else f p) ∷ changed i g (changed i f ps)) (sym (ap (λ (n : ℕ). i == n) (same p) ∙ is))
+    by_test false is later =
+        ap (λ ks. p ∷ ks) later ∙ ap (λ (t : Bool). (if t then g p else p) ∷ changed i g (changed i f ps)) (sym is)
+
 pub records_without : {T : Type 0} (i : ℕ) (ps : List (Place T)) → records_in (without i ps) ≡ without_id i (records_in ps)
 records_without i [] = refl
 records_without {T} i (p ∷ ps) = by_test (not (i == p.known.id)) (records_without i ps)

@@ -148,6 +148,7 @@ impl<T> Places<T> {
     }
 
     /// Returns the id of the idle object that was parked last.
+    #[inline(always)]
     pub fn last_idle(&self) -> Option<u64>
         ensures value { result ≡ option_map (λ r. r.id)
             (last_of (idle_queue (records_in self.now.objects))) }
@@ -520,6 +521,68 @@ impl<T> Places<T> {
         };
         change(&mut self.slots, &mut self.remembered, key, known, readied);
         taken
+    }
+
+    /// Lends an idle object at time `at` (milliseconds), and returns its value: as `take_ready` and then `set_lent`.
+    pub fn lend_value(&mut self, id: u64, at: u64) -> T
+        requires present { IsInPhase (records_in self.old.objects) id phases.Idle }
+        ensures objects { self.new.objects
+            ≡ changed id (to_lent at) (changed id (to_taken phases.Readying) self.old.objects) }
+        ensures value { value_in self.old.objects id ≡ Some result }
+        ensures owed_between { owed_for
+            (records_in (changed id (to_taken phases.Readying) self.old.objects))
+            + max_remaining phases.Idle
+            ≡ owed_for (records_in self.old.objects) + max_remaining phases.Readying }
+        ensures owed { owed_for (records_in self.new.objects) + max_remaining phases.Idle
+            ≡ owed_for (records_in self.old.objects) + max_remaining phases.Lent }
+        ensures spare_capacity { self.old.spare_capacity ≤ self.new.spare_capacity }
+    {
+        let key = key_under(&self.index, id);
+        let known = self.slots.known(key);
+        let given = self.slots.take(key);
+        self.counts.remove(Phase::Idle);
+        self.counts.add(Phase::Lent);
+        self.uses.recent = earlier(self.uses.recent, at);
+        let lent = at;
+        let loan = Record {
+            phase: Phase::Lent,
+            lent,
+            used: at,
+            is_new: false,
+            ..known
+        };
+        change(&mut self.slots, &mut self.remembered, key, known, loan);
+        given
+    }
+
+    /// Puts a lent object at the end of the queue, with its value: as `set_returned` and then `park`.
+    pub fn park_lent(&mut self, id: u64, parked: u64, since: u64, value: T)
+        requires present { IsInPhase (records_in self.old.objects) id phases.Lent }
+        requires above { QueueBelow parked (records_in self.old.objects) }
+        ensures objects { self.new.objects ≡ changed id (to_idle parked since value)
+            (changed id (to_phase phases.Returning) self.old.objects) }
+        ensures value { value_in self.new.objects id ≡ Some value }
+        ensures owed_between { owed_for
+            (records_in (changed id (to_phase phases.Returning) self.old.objects))
+            + max_remaining phases.Lent
+            ≡ owed_for (records_in self.old.objects) + max_remaining phases.Returning }
+        ensures owed { owed_for (records_in self.new.objects) + max_remaining phases.Lent
+            ≡ owed_for (records_in self.old.objects) + max_remaining phases.Idle }
+        ensures spare_capacity { self.old.spare_capacity ≤ self.new.spare_capacity }
+    {
+        let key = key_under(&self.index, id);
+        let known = self.slots.known(key);
+        self.counts.remove(Phase::Lent);
+        self.counts.add(Phase::Idle);
+        let idle = Record {
+            phase: Phase::Idle,
+            parked,
+            is_new: false,
+            ..known
+        };
+        self.slots.set_known(key, Record { since, ..idle });
+        self.slots.put(key, value);
+        self.slots.link_last(key);
     }
 
     /// Stores the value of an object under an idle test, so that it is idle again. It keeps its position in the queue.
