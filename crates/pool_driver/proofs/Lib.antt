@@ -1,4 +1,3 @@
-pub mod AtOnce
 pub mod FirstSteps
 pub mod Following
 pub mod Moving

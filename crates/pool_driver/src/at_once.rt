@@ -1,8 +1,10 @@
 //! Calls that are over at once: an idle object is lent, or a returned one is idle again, and the host is asked nothing.
 ghost use Rattle.std.specs.Prelude.{◌≡◌, max, true, false, IfNone, IfSome};
-ghost use Rattle.pool_core.specs.Reply.{has_room};
+ghost use Rattle.pool_core.specs.Reply.{has_room, reply_from};
+ghost use Rattle.pool_journal.specs.declared.answer.Answer.TheVariants as answers;
+ghost use Rattle.pool_journal.specs.declared.input.Input.TheVariants as inputs;
 ghost use Rattle.pool_journal.specs.Base.{closed_from, records_from};
-ghost use Rattle.pool_driver.specs.Driving.{ChecksAtOnce, LendsAtOnce, TakesAtOnce, TakesBackAtOnce, asks_at_borrow, asks_at_return};
+ghost use Rattle.pool_driver.specs.Driving.{ChecksAtOnce, IsAvailable, LendsAtOnce, TakesAtOnce, TakesBackAtOnce, asks_at_borrow, asks_at_return, may_come_in};
 
 use crate::pool::DrivenPool;
 use pool_journal::{Answer, Input};
@@ -42,6 +44,30 @@ impl DrivenPool {
         }
     }
 
+    // The object that a borrow takes that begins now, at this time, and comes before those that wait; and the number of
+    // objects and places that are available, which is not counted if none waits. `None` if it is to be begun as a call.
+    #[inline(always)]
+    fn idle_for_newcomer(&mut self, at: u64) -> Option<(u64, u64)>
+        ensures keeps { IfSome result (λ r. self.old.plan.remove_abandoned_on_borrow ≡ false) }
+        ensures due { IfSome result (λ r. answers.Take r.0 ≡ reply_from self.old.core.settings
+            self.old.core.base self.old.core.journal at (inputs.Borrow at)) }
+        ensures may { IfSome result (λ r. may_come_in r.1 self.old ≡ true) }
+        ensures available { IfSome result (λ r. IsAvailable self.old r.1) }
+        ensures unchanged { self.new ≡ self.old }
+    {
+        if self.plan.remove_abandoned_on_borrow || self.has_long_journal() {
+            return None;
+        }
+        let available = self.available_to_newcomer();
+        if !self.may_come(available) {
+            return None;
+        }
+        match self.core.due(at, Input::Borrow { began: at }) {
+            Answer::Take(id) => Some((id, available)),
+            _ => None,
+        }
+    }
+
     /// Takes an idle object by the first step of a borrow that begins now, at time `at` (milliseconds) or the greatest time
     /// that was passed in before. Returns its id and its token. The host makes it ready, and reports that by a step.
     ///
@@ -57,17 +83,8 @@ impl DrivenPool {
         ensures unchanged { IfNone result (self.new ≡ self.old) }
     {
         let at = at.max(self.last);
-        if self.plan.remove_abandoned_on_borrow || self.has_long_journal() {
-            return None;
-        }
-        let available = self.available_to_newcomer();
-        if !self.may_come(available) {
-            return None;
-        }
+        let (id, available) = self.idle_for_newcomer(at)?;
         let input = Input::Borrow { began: at };
-        let Answer::Take(id) = self.core.due(at, input) else {
-            return None;
-        };
         match self
             .core
             .step_due(caller, at, input, Answer::Take(id), None)
@@ -97,8 +114,13 @@ impl DrivenPool {
         if self.asks_at_borrow() {
             return None;
         }
-        let (id, token) = self.take_at_once(caller, at)?;
-        self.core.lend(caller, self.last, id);
+        let at = at.max(self.last);
+        let (id, available) = self.idle_for_newcomer(at)?;
+        let Ok(token) = self.core.lend_idle(caller, at, at, id) else {
+            return None;
+        };
+        self.waiters.note_lent(available);
+        self.last = at;
         Some((id, token))
     }
 
@@ -137,16 +159,15 @@ impl DrivenPool {
             self.old self.new }
         ensures unchanged { result ≡ false → self.new ≡ self.old }
     {
-        if self.asks_at_return() || !self.has_idle_room() {
+        if self.asks_at_return() || !self.has_idle_room() || self.has_long_journal() {
             return false;
         }
-        // It is legal before and after the check, which leaves the queue as it is.
-        let _ = self.core.journal();
-        if !self.check_at_once(caller, at, id) {
+        let at = at.max(self.last);
+        let Answer::Check = self.core.due(at, Input::GiveBack { id }) else {
             return false;
-        }
-        let _ = self.core.journal();
-        let _ = self.core.take_back(caller, self.last, id, token);
+        };
+        self.core.park_lent(caller, at, id, token);
+        self.last = at;
         true
     }
 }

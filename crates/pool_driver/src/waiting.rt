@@ -237,6 +237,7 @@ impl DrivenPool {
     }
 
     // The number of available objects and free places, as far as it matters to a newcomer: 0 if no call waits.
+    #[inline(always)]
     pub(crate) fn available_to_newcomer(&self) -> u64
         ensures { IsAvailable self.now result }
     {
@@ -348,6 +349,7 @@ impl DrivenPool {
 
     // Whether a borrow that comes later may ask: there is more than those that wait can take, or it may overtake them.
     // It may not once one of them was woken and found nothing, if there is a limit to overtakes.
+    #[inline(always)]
     pub(crate) fn may_come(&mut self, available: u64) -> bool
         ensures value { result ≡ may_come_in available self.old }
         ensures kept { self.new ≡ self.old }

@@ -1,38 +1,33 @@
-use Rattle.std.specs.Prelude.{max}
-use Rattle.std.proofs.Common.{◌≡◌, ℕ, [], ◌∷◌, ◌++◌, None, ap, sym, ◌∙◌, subst}
-use Rattle.pool_journal.specs.declared.answer.Answer.{Answer}
-use Rattle.pool_journal.specs.declared.answer.Answer.TheVariants as answers
-use Rattle.pool_journal.specs.declared.input.Input.TheVariants as inputs
-use Rattle.pool_journal.specs.declared.input.Outcome.TheVariants as outcomes
-use Rattle.pool_core.specs.Core.{Answered}
-use Rattle.pool_core.specs.Legal.{entry_of}
-use Rattle.pool_driver.specs.Driving.{DrivenModel}
-use Rattle.pool_driver.proofs.Following.{readying_after}
+use Rattle.std.proofs.Common.{◌≡◌, ℕ, max, Bool, true, refl, ap, sym, ◌∙◌, subst}
+use Rattle.pool_driver.specs.Driving.{DrivenModel, IsAvailable, LendsAtOnce, asks_at_borrow, may_come_in, passed}
+use Rattle.pool_driver.proofs.Overtaking.{may_come_there, takes_there}
 use Rattle.pool_driver.proofs.pool.DrivenPool.lend_at_once.Goals as goal
-
-pub lend-requires : goal.lend-requires
-lend-requires c =
-    let taken = c.in_ok-id.ensures.taken.taken in
-    let J = c.args.self.now.core.journal in
-    let at = max c.args.at c.args.self.now.last in
-    let after = c.self.inside.core in
-    record {
-      readying = readying_after after.base c.args.caller at c.in_ok-id.id after.journal at
-          (record { earlier = J; is = ap (λ (d : DrivenModel). d.core.journal) c.self.view_is ∙ taken.appended ∙ ap (λ (a : Answer). J ++ entry_of c.args.caller at (inputs.Borrow at) a ∷ []) (sym taken.due) });
-    }
 
 pub returns-clause-lent : goal.returns-clause-lent
 returns-clause-lent c =
-    let found = c.in_ok-id in
-    let taken = found.ensures.taken in
-    let at : ℕ = max c.args.at c.args.self.now.last in
-    let time : c.self.inside.last ≡ at = ap (λ d. d.last) (c.self.view_is ∙ taken.rest) in
-    let P : DrivenModel → Type 0 = λ d. Answered c.args.caller at (inputs.Ready found.id outcomes.Good) None d.core c.lend.new.self answers.Lent None in
-    let Q : ℕ → Type 0 = λ n. Answered c.args.caller n (inputs.Ready found.id outcomes.Good) None c.self.inside.core c.lend.new.self answers.Lent None in
-    record {
-      silent = sym c.if-asks_at_borrow.ensures;
-      mid = c.take_at_once.new.self;
-      taken = taken;
-      lent = subst P c.self.view_is (subst Q time c.lend.ensures.answered);
-      rest = ap (λ (d : DrivenModel). record d { core = c.lend.new.self }) c.self.view_is;
-    }
+    let found = c.in_ok-id.ensures in
+    let inside = c.self-2.inside in
+    let here : DrivenModel = record { core = inside.core; queue = inside.waiters; plan = inside.plan; drops = inside.drops; holds_back = inside.holds_back; last = inside.last } in
+    let same : here ≡ c.args.self.now = c.self-2.view_is ∙ found.unchanged in
+    let lends = c.in-Ok.ensures.lent in
+    let n = c.in_ok-id.available in
+    let there = subst (λ (d : DrivenModel). IsAvailable d n) (sym same) found.available in
+    let may = subst (λ (d : DrivenModel). may_come_in n d ≡ true) (sym same) found.may in
+    let mid : DrivenModel = record here { core = lends.mid; queue = c.note_lent.new.self; last = c.max-at.result } in
+    let new : DrivenModel = record here { core = c.lend_idle.new.self; queue = c.note_lent.new.self; last = c.max-at.result } in
+    let P : DrivenModel → Type 0 = λ d. LendsAtOnce c.args.caller c.max-at.result c.in_ok-id.id c.in-Ok.token d new in
+    subst (λ (at : ℕ). LendsAtOnce c.args.caller at c.in_ok-id.id c.in-Ok.token c.args.self.now new) (c.max-at.ensures ∙ ap (λ (d : DrivenModel). max c.args.at d.last) c.self.view_is)
+    (subst P same
+    (record {
+      silent = ap (λ (d : DrivenModel). asks_at_borrow d.plan) same ∙ sym c.if-asks_at_borrow.ensures;
+      mid = mid;
+      taken = record {
+        keeps = ap (λ (d : DrivenModel). d.plan.remove_abandoned_on_borrow) same ∙ found.keeps;
+        may = may_come_there n here there may;
+        waiting = c.note_lent.ensures.waiting ∙ ap (λ (t : Bool). passed t here.queue.waiting) (takes_there n here there);
+        taken = lends.taken;
+        rest = ap (λ q. record here { core = lends.mid; queue = q; last = c.max-at.result }) c.note_lent.ensures.rest;
+      };
+      lent = lends.lent;
+      rest = refl;
+    }))
