@@ -9,8 +9,9 @@ use crate::locked_pool::LockedPool;
 use crate::manager::Manager;
 use crate::shared::{Held, Item, Shared};
 use crate::sleepers::Wakes;
-use crate::step::{Answer, Input, Outcome, StepFault};
+use crate::step::{Answer, Input, Outcome, Request, StepFault};
 use crate::values::Loan;
+use std::fmt::Debug;
 use std::time::Instant;
 
 /// An idle object that was examined, and has to end if it is there.
@@ -28,13 +29,8 @@ impl<M: Manager> Drop for Place<'_, M> {
     fn drop(&mut self) {
         let at = self.pool.now();
         let mut state = self.pool.lock();
-        complete(
-            &mut state,
-            self.caller,
-            at,
-            Input::Destroyed { id: self.id },
-            0,
-        );
+        let destroyed = Request::of(Input::Destroyed, self.id);
+        complete(&mut state, self.caller, at, destroyed, 0);
         state.values.free(self.token);
         self.pool.tell_ended(&state);
         self.pool.leave_after_step(state);
@@ -42,43 +38,44 @@ impl<M: Manager> Drop for Place<'_, M> {
 }
 
 /// Takes a step that continues with an object, and never fails.
-#[inline]
+#[inline(always)]
 pub(crate) fn complete<T>(
     state: &mut LockedPool<T>,
     caller: u32,
     at: Moment,
-    input: Input,
+    request: Request,
     token: u64,
 ) -> Answer {
     let time = state.tell(at);
-    match state.core.step(caller, time, input, token) {
+    match state.core.step(caller, time, request, token) {
         Ok((answer, _)) => answer,
-        Err(fault) => unreachable!("{input:?} failed: {fault:?}"),
+        Err(fault) => unexpected(request, fault),
     }
 }
 
 /// Returns the call to wake after a step, and asks for a writer of a segment, if one is due.
+#[inline]
 fn after_step<T>(state: &mut LockedPool<T>) -> Wakes {
-    let mut wakes = Wakes::default();
-    wakes.push(state.next_wake());
     state.care_for_journal();
-    wakes
+    Wakes::of(state.core.next_wake())
 }
 
-/// Ends the program if an answer of the core does not fit its input.
+/// Ends the program if what the core answers does not fit a request.
 #[cold]
-pub(crate) fn unexpected(input: Input, answer: Answer) -> ! {
-    unreachable!("{input:?} was answered {answer:?}")
+pub(crate) fn unexpected(request: Request, answer: impl Debug) -> ! {
+    unreachable!("{request:?} was answered {answer:?}")
 }
 
 impl<M: Manager> Shared<M> {
     /// Frees the lock after a step, and wakes the calls that may find something.
+    #[inline(always)]
     pub fn leave_after_step(&self, mut state: Held<'_, M>) {
         let wakes = after_step(&mut state);
         self.leave(state, wakes);
     }
 
     /// Does the same before work on an object, for which others may wait: a later call writes the segment.
+    #[inline(always)]
     pub fn leave_to_work(&self, mut state: Held<'_, M>) {
         let wakes = after_step(&mut state);
         self.leave_with_loan(state, wakes);
@@ -98,20 +95,16 @@ impl<M: Manager> Shared<M> {
     /// Destroys an object that has reached its age, at its return.
     #[cold]
     pub fn end_too_old(&self, caller: u32, at: Moment, loan: Loan<Item<M>>) -> Returned {
-        let id = loan.id;
+        let returned = Request::of(Input::GiveBack, loan.id);
         let mut state = self.lock();
         let time = state.tell(at);
         // It fails for room or memory only if the object is not lent any more.
-        let Ok((Answer::Check, _)) = state.core.step(caller, time, Input::GiveBack { id }, 0)
-        else {
+        let Ok((Answer::Check, _)) = state.core.step(caller, time, returned, 0) else {
             self.leave_after_step(state);
             self.let_go(loan);
             return Returned::Gone;
         };
-        let too_old = Input::Park {
-            id,
-            outcome: Outcome::TestFailed,
-        };
+        let too_old = Request::of(Input::Park, loan.id).with(Outcome::TestFailed);
         match complete(&mut state, caller, at, too_old, loan.token) {
             Answer::Destroy => {}
             answer => unexpected(too_old, answer),
@@ -164,7 +157,8 @@ impl<M: Manager> Shared<M> {
         let at = self.now();
         let mut state = self.lock();
         let time = state.tell(at);
-        let (answer, token) = state.core.step(caller, time, Input::EvictNext, 0)?;
+        let examine = Request::of(Input::EvictNext, 0);
+        let (answer, token) = state.core.step(caller, time, examine, 0)?;
         let examined = match answer {
             Answer::Nothing => None,
             Answer::KeptIdle => Some(None),
@@ -177,7 +171,7 @@ impl<M: Manager> Shared<M> {
                 let tested = Loan { id, token, object };
                 Some(self.test_age(&mut state, caller, at, tested))
             }
-            answer => unexpected(Input::EvictNext, answer),
+            answer => unexpected(examine, answer),
         };
         match examined {
             Some(Some(_)) => self.leave_to_work(state),
@@ -194,19 +188,18 @@ impl<M: Manager> Shared<M> {
         at: Moment,
         tested: Loan<Item<M>>,
     ) -> Examined<M> {
-        let id = tested.id;
         let outcome = match self.is_too_old(&tested.object, at.millis) {
             true => Outcome::TestFailed,
             false => Outcome::Good,
         };
-        let input = Input::Tested { id, outcome };
-        match complete(state, caller, at, input, tested.token) {
+        let report = Request::of(Input::Tested, tested.id).with(outcome);
+        match complete(state, caller, at, report, tested.token) {
             Answer::Kept => {
                 state.values.put(tested.token, tested.object);
                 None
             }
             Answer::Destroy => Some(tested),
-            answer => unexpected(input, answer),
+            answer => unexpected(report, answer),
         }
     }
 }

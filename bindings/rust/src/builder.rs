@@ -24,7 +24,7 @@ use crate::sys;
 use std::fmt;
 use std::io;
 use std::sync::Arc;
-use std::time::{Duration, Instant};
+use std::time::Duration;
 
 /// The settings of a pool to be opened. The brackets have the name of the property, in settings files and in `docs/settings.md`, and its
 /// default, which is that of Commons Pool 2 unless the text says otherwise.
@@ -326,7 +326,7 @@ impl<M: Manager> Builder<M> {
         check_ranges(&self.settings, "journal_limit")?;
         let clock = match self.clock.take() {
             Some(clock) => Clock::Given(clock),
-            None => Clock::Since(Instant::now()),
+            None => Clock::since_now(),
         };
         let (mode, journal_limit, stored) = self.take_journal();
         let store_every = stored.as_ref().and_then(|segments| segments.store_every);

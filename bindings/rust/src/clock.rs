@@ -1,7 +1,26 @@
 //! Times of steps.
 
 use crate::panics::unless_it_panics;
-use std::time::Instant;
+use std::ffi::c_int;
+
+extern "C" {
+    /// Stores seconds and nanoseconds.
+    fn clock_gettime(clock: c_int, time: *mut [i64; 2]) -> c_int;
+}
+
+const CLOCK_MONOTONIC: c_int = 1;
+
+const NANOS_PER_MILLI: u64 = 1_000_000;
+
+/// Returns the time by the clock of [`Instant`](std::time::Instant), in nanoseconds, in a quarter of its instructions.
+#[inline]
+fn monotonic() -> u64 {
+    let mut time = [0; 2];
+    // SAFETY: `timespec` has this layout where the crate compiles.
+    let status = unsafe { clock_gettime(CLOCK_MONOTONIC, &mut time) };
+    assert!(status == 0, "the system has this clock");
+    time[0] as u64 * 1_000_000_000 + time[1] as u64
+}
 
 /// A clock of the user's.
 pub(crate) type GivenClock = Box<dyn Fn() -> u64 + Send + Sync>;
@@ -18,40 +37,48 @@ pub(crate) struct Moment {
 impl Moment {
     /// Returns this moment, or the beginning of the next millisecond by the system's clock: a wait from then on is as long as it is to be.
     pub fn rounded_up(self) -> Moment {
-        let is_within = self.nanos % 1_000_000 > 0;
+        let is_within = self.nanos % NANOS_PER_MILLI > 0;
         let millis = self.millis.saturating_add(is_within.into());
         Moment { millis, ..self }
     }
 
     pub fn of_millis(millis: u64) -> Moment {
-        let nanos = millis.wrapping_mul(1_000_000);
+        let nanos = millis.wrapping_mul(NANOS_PER_MILLI);
         Moment { millis, nanos }
     }
 }
 
 /// Returns times.
 pub(crate) enum Clock {
-    /// The time since this instant.
-    Since(Instant),
+    /// The time since this one of the system's clock, in nanoseconds.
+    Since(u64),
     Given(GivenClock),
 }
 
 impl Clock {
+    /// Returns a clock that counts from now on.
+    pub fn since_now() -> Clock {
+        Clock::Since(monotonic())
+    }
+
     /// Returns the time, or none if the clock panicked.
     #[inline]
     pub fn read(&self) -> Option<Moment> {
         match self {
             Clock::Since(start) => {
-                let passed = start.elapsed();
-                let nanos = passed.as_secs().wrapping_mul(1_000_000_000);
-                Some(Moment {
-                    millis: passed.as_secs() * 1_000 + u64::from(passed.subsec_millis()),
-                    nanos: nanos.wrapping_add(u64::from(passed.subsec_nanos())),
-                })
+                let nanos = monotonic().saturating_sub(*start);
+                let millis = nanos / NANOS_PER_MILLI;
+                Some(Moment { millis, nanos })
             }
-            Clock::Given(clock) => unless_it_panics(clock).map(Moment::of_millis),
+            Clock::Given(clock) => read_given(clock),
         }
     }
+}
+
+/// Out of line, since its catch of a panic is long.
+#[inline(never)]
+fn read_given(clock: &GivenClock) -> Option<Moment> {
+    unless_it_panics(clock).map(Moment::of_millis)
 }
 
 /// An object, and when it was made and lent.
@@ -70,5 +97,31 @@ impl<T> Aged<T> {
     pub fn lent_at(mut self, at: Moment) -> Aged<T> {
         self.lent = at.nanos;
         self
+    }
+}
+
+#[cfg(test)]
+mod tests {
+    use super::Clock;
+    use std::thread;
+    use std::time::{Duration, Instant};
+
+    #[test]
+    fn the_clock_of_the_system_is_that_of_instants() {
+        let before = Instant::now();
+        let clock = Clock::since_now();
+        let begun = Instant::now();
+        thread::sleep(Duration::from_millis(3));
+        let least = begun.elapsed();
+        let read = clock.read().unwrap();
+        let most = before.elapsed();
+        assert!((least..=most).contains(&Duration::from_nanos(read.nanos)));
+        assert_eq!(read.millis, read.nanos / 1_000_000);
+    }
+
+    #[test]
+    fn a_clock_before_its_start_reads_as_the_start() {
+        let read = Clock::Since(u64::MAX).read().unwrap();
+        assert_eq!((read.millis, read.nanos), (0, 0));
     }
 }

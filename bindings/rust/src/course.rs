@@ -157,7 +157,7 @@ impl<M: Manager> Course<M> {
         if !state.core.advance(event, &mut self.call) {
             // It was given up: its waker panicked, or its task was not polled for long.
             match report {
-                Report::GivenUp => self.call.cancel(),
+                Report::GivenUp => state.core.cancel(&mut self.call),
                 _ => self.start(state),
             }
         }
@@ -274,13 +274,6 @@ impl<M: Manager> Course<M> {
             self.tests_idle = state.setup.tests_idle;
             self.is_too_old = None;
         }
-    }
-
-    /// Returns the ticket of the call to wake.
-    pub fn wakes(&self) -> Wakes {
-        let mut wakes = Wakes::default();
-        wakes.push(self.call.wake());
-        wakes
     }
 
     /// Returns the object of a borrow that is over since the library lent it one.

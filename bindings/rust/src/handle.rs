@@ -7,21 +7,20 @@ use std::sync::{Arc, Weak};
 
 /// A user's handle: that of a [`Pool`](crate::Pool), a lent object, or the borrow of a task. When the last one is gone, the pool is closed.
 ///
-/// The threads of a pool's own have none. Users are counted by themselves where there is such a thread, so that the last one ends the pool also
-/// while one of them has it.
-pub(crate) struct Handle<M: Manager> {
-    // Dropped before the pool.
-    users: Option<Arc<Users<M>>>,
-    pool: Arc<Shared<M>>,
-}
+/// The threads of a pool's own have none, so that the last user ends the pool also while one of them has it.
+pub(crate) struct Handle<M: Manager>(Arc<Users<M>>);
 
-/// The users of a pool that has threads of its own.
-struct Users<M: Manager>(Arc<Shared<M>>);
+/// The users of a pool.
+struct Users<M: Manager> {
+    pool: Arc<Shared<M>>,
+    /// Whether threads of its own may have the pool, too. Otherwise it ends by its own drop.
+    has_threads: bool,
+}
 
 impl<M: Manager> Drop for Users<M> {
     fn drop(&mut self) {
-        if !self.0.is_of_parent() {
-            self.0.end();
+        if self.has_threads && !self.pool.is_of_parent() {
+            self.pool.end();
         }
     }
 }
@@ -29,25 +28,18 @@ impl<M: Manager> Drop for Users<M> {
 impl<M: Manager> Handle<M> {
     /// The first handle of a pool.
     pub fn new(pool: Arc<Shared<M>>, has_threads: bool) -> Handle<M> {
-        let users = has_threads.then(|| Arc::new(Users(Arc::clone(&pool))));
-        Handle { users, pool }
+        Handle(Arc::new(Users { pool, has_threads }))
     }
 
     pub fn downgrade(&self) -> WeakHandle<M> {
-        WeakHandle {
-            users: self.users.as_ref().map(Arc::downgrade),
-            pool: Arc::downgrade(&self.pool),
-        }
+        WeakHandle(Arc::downgrade(&self.0))
     }
 }
 
 impl<M: Manager> Clone for Handle<M> {
     #[inline]
     fn clone(&self) -> Handle<M> {
-        Handle {
-            users: self.users.clone(),
-            pool: Arc::clone(&self.pool),
-        }
+        Handle(Arc::clone(&self.0))
     }
 }
 
@@ -56,33 +48,22 @@ impl<M: Manager> Deref for Handle<M> {
 
     #[inline]
     fn deref(&self) -> &Shared<M> {
-        &self.pool
+        &self.0.pool
     }
 }
 
 /// A handle that does not keep the pool open.
-pub(crate) struct WeakHandle<M: Manager> {
-    users: Option<Weak<Users<M>>>,
-    pool: Weak<Shared<M>>,
-}
+pub(crate) struct WeakHandle<M: Manager>(Weak<Users<M>>);
 
 impl<M: Manager> WeakHandle<M> {
     /// Returns a handle, or none if the last one is gone.
     pub fn upgrade(&self) -> Option<Handle<M>> {
-        let users = match &self.users {
-            Some(users) => Some(users.upgrade()?),
-            None => None,
-        };
-        let pool = self.pool.upgrade()?;
-        Some(Handle { users, pool })
+        self.0.upgrade().map(Handle)
     }
 }
 
 impl<M: Manager> Clone for WeakHandle<M> {
     fn clone(&self) -> WeakHandle<M> {
-        WeakHandle {
-            users: self.users.clone(),
-            pool: Weak::clone(&self.pool),
-        }
+        WeakHandle(Weak::clone(&self.0))
     }
 }

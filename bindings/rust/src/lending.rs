@@ -58,8 +58,7 @@ impl<M: Manager> Shared<M> {
         let may_lend = self.lends_at_once(&state);
         match may_lend.then(|| state.lend(caller, at)).flatten() {
             Some(loan) => {
-                let mut wakes = Wakes::default();
-                wakes.push(state.next_wake());
+                let wakes = Wakes::of(state.core.next_wake());
                 self.leave_with_loan(state, wakes);
                 Ok(loan)
             }
@@ -86,7 +85,7 @@ impl<M: Manager> Shared<M> {
         course.start(&mut state);
         if let Some(loan) = course.take_lent(&mut state) {
             state.care_for_journal();
-            self.leave_with_loan(state, course.wakes());
+            self.leave_with_loan(state, Wakes::of(course.call.wake()));
             return Ok(loan);
         }
         let mut call = InProgress::begun(self, state, course, &mut None);
@@ -104,8 +103,7 @@ impl<M: Manager> Shared<M> {
         let (state, loan) = match self.parks_at_once(&state) {
             true => match state.take_back(caller, at, loan) {
                 None => {
-                    let mut wakes = Wakes::default();
-                    wakes.push(state.next_wake());
+                    let wakes = Wakes::of(state.core.next_wake());
                     self.leave(state, wakes);
                     return Returned::Parked;
                 }

@@ -84,6 +84,7 @@ impl<T> LockedPool<T> {
     }
 
     /// Takes an idle object by the first step of a borrow, if the core does so at once.
+    #[inline]
     pub fn take(&mut self, caller: u32, at: Moment) -> Option<Loan<Aged<T>>> {
         if self.values.len() == 0 {
             return None;
@@ -95,6 +96,7 @@ impl<T> LockedPool<T> {
     }
 
     /// Takes the first step of the return of an object, if the core does so at once. Returns whether it does.
+    #[inline(always)]
     pub fn check(&mut self, caller: u32, at: Moment, loan: &Loan<Aged<T>>) -> bool {
         let time = self.tell(at);
         let is_checked = self.core.check(caller, time, loan.id);
@@ -103,12 +105,6 @@ impl<T> LockedPool<T> {
             self.care_for_journal();
         }
         is_checked
-    }
-
-    /// Returns the ticket of the next call to wake, if any call waits.
-    #[inline]
-    pub fn next_wake(&mut self) -> Option<u64> {
-        self.core.next_wake()
     }
 
     /// Returns the call of a task that was woken long ago, for an object or for room in the journal, and has not been polled since then.
@@ -136,6 +132,7 @@ impl<T> LockedPool<T> {
         }
     }
 
+    #[cold]
     fn look_at_journal(&mut self) {
         let stored = self.core.steps();
         if self.journal.is_long(stored) {

@@ -7,7 +7,7 @@ use crate::lending::Returned;
 use crate::manager::Manager;
 use crate::shared::{Held, Item, Shared};
 use crate::sleepers::Wakes;
-use crate::step::{Answer, Input, Outcome};
+use crate::step::{Answer, Input, Outcome, Request};
 use crate::values::Loan;
 use crate::work::{passed, Fault};
 
@@ -15,8 +15,8 @@ use crate::work::{passed, Fault};
 struct Worked<'a, M: Manager> {
     pool: &'a Shared<M>,
     caller: u32,
-    is_returned: bool,
-    /// What the work came to, if it ends now.
+    /// The step that reports what the work came to, and what it came to if it ends now.
+    input: Input,
     outcome: Outcome,
     loan: Option<Loan<Item<M>>>,
 }
@@ -61,29 +61,33 @@ impl<M: Manager> Worked<'_, M> {
         }
     }
 
-    /// Returns the step that reports the outcome of the work.
-    fn report(&self, id: u64, outcome: Outcome) -> Input {
-        match self.is_returned {
-            true => Input::Park { id, outcome },
-            false => Input::Ready { id, outcome },
+    /// Ends the work. Returns the object.
+    #[inline]
+    fn end(&mut self) -> Loan<Item<M>> {
+        self.loan.take().expect(HELD)
+    }
+
+    /// Reports that the work failed, and destroys the object.
+    #[cold]
+    fn fail(&self, loan: Loan<Item<M>>) {
+        let report = Request::of(self.input, loan.id).with(self.outcome);
+        let at = self.pool.now();
+        let mut state = self.pool.lock();
+        match complete(&mut state, self.caller, at, report, loan.token) {
+            Answer::Destroy => {}
+            answer => unexpected(report, answer),
         }
+        self.pool.leave_to_work(state);
+        self.pool.end_object(self.caller, loan);
     }
 }
 
 impl<M: Manager> Drop for Worked<'_, M> {
+    #[inline]
     fn drop(&mut self) {
-        let Some(loan) = self.loan.take() else {
-            return;
-        };
-        let input = self.report(loan.id, self.outcome);
-        let at = self.pool.now();
-        let mut state = self.pool.lock();
-        match complete(&mut state, self.caller, at, input, loan.token) {
-            Answer::Destroy => {}
-            answer => unexpected(input, answer),
+        if let Some(loan) = self.loan.take() {
+            self.fail(loan);
         }
-        self.pool.leave_to_work(state);
-        self.pool.end_object(self.caller, loan);
     }
 }
 
@@ -91,11 +95,12 @@ impl<M: Manager> Drop for Worked<'_, M> {
 type NotTaken<'a, M> = (Held<'a, M>, Loan<Item<M>>);
 
 impl<M: Manager> Shared<M> {
-    fn worked(&self, caller: u32, is_returned: bool, loan: Loan<Item<M>>) -> Worked<'_, M> {
+    #[inline]
+    fn worked(&self, caller: u32, input: Input, loan: Loan<Item<M>>) -> Worked<'_, M> {
         Worked {
             pool: self,
             caller,
-            is_returned,
+            input,
             outcome: Outcome::TestFailed,
             loan: Some(loan),
         }
@@ -112,12 +117,12 @@ impl<M: Manager> Shared<M> {
         let Some(loan) = state.take(caller, at) else {
             return Err(Some(state));
         };
-        let mut taken = self.worked(caller, false, loan);
+        let mut taken = self.worked(caller, Input::Ready, loan);
         let is_tested = state.setup.settings.test_on_borrow;
         self.leave_to_work(state);
         let activated = taken.activate();
         match activated.and_then(|()| taken.validate(is_tested)) {
-            Ok(()) => Ok(self.lend(taken, at)),
+            Ok(()) => Ok(self.lend(caller, at, taken.end())),
             Err(fault) => {
                 self.give_up(taken, fault);
                 Err(None)
@@ -126,14 +131,14 @@ impl<M: Manager> Shared<M> {
     }
 
     /// Lends an object that is ready, to a borrow that began at a time.
-    fn lend(&self, mut ready: Worked<'_, M>, began: Moment) -> Loan<Item<M>> {
-        let mut loan = ready.loan.take().expect(HELD);
-        let input = ready.report(loan.id, Outcome::Good);
+    #[inline]
+    fn lend(&self, caller: u32, began: Moment, mut loan: Loan<Item<M>>) -> Loan<Item<M>> {
+        let ready = Request::of(Input::Ready, loan.id);
         let at = self.now();
         let mut state = self.lock();
-        match complete(&mut state, ready.caller, at, input, loan.token) {
+        match complete(&mut state, caller, at, ready, loan.token) {
             Answer::Lent => {}
-            answer => unexpected(input, answer),
+            answer => unexpected(ready, answer),
         }
         state.measures.waits.count(began.nanos, at.nanos);
         state.care_for_journal();
@@ -153,12 +158,12 @@ impl<M: Manager> Shared<M> {
         if !state.check(caller, at, &loan) {
             return Err((state, loan));
         }
-        let mut returned = self.worked(caller, true, loan);
+        let mut returned = self.worked(caller, Input::Park, loan);
         let is_tested = state.setup.settings.test_on_return;
         self.leave_with_loan(state, Wakes::default());
         let tested = returned.validate(is_tested);
         match tested.and_then(|()| returned.passivate()) {
-            Ok(()) => Ok(self.park(returned)),
+            Ok(()) => Ok(self.park(caller, returned.end())),
             Err(fault) => {
                 self.give_up(returned, fault);
                 Ok(Returned::Destroyed)
@@ -167,12 +172,12 @@ impl<M: Manager> Shared<M> {
     }
 
     /// Makes an object idle that was put away, unless the pool does not keep it.
-    fn park(&self, mut passive: Worked<'_, M>) -> Returned {
-        let loan = passive.loan.take().expect(HELD);
-        let input = passive.report(loan.id, Outcome::Good);
+    #[inline]
+    fn park(&self, caller: u32, loan: Loan<Item<M>>) -> Returned {
+        let park = Request::of(Input::Park, loan.id);
         let at = self.now();
         let mut state = self.lock();
-        match complete(&mut state, passive.caller, at, input, loan.token) {
+        match complete(&mut state, caller, at, park, loan.token) {
             Answer::Parked => {
                 state.values.put(loan.token, loan.object);
                 self.leave_after_step(state);
@@ -180,10 +185,10 @@ impl<M: Manager> Shared<M> {
             }
             Answer::Destroy => {
                 self.leave_to_work(state);
-                self.end_object(passive.caller, loan);
+                self.end_object(caller, loan);
                 Returned::Destroyed
             }
-            answer => unexpected(input, answer),
+            answer => unexpected(park, answer),
         }
     }
 

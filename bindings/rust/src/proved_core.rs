@@ -1,7 +1,8 @@
-//! The proved core, over its C library. All code that is `unsafe` is here and in `exits`, which asks C's library to be told of the end.
+//! The proved core, over its C library. All code that is `unsafe` is here, in `exits`, which asks C's library to be told of the end, and in `clock`,
+//! which reads the system's.
 
 use crate::call::{action_of, Action, End, Kind, Report};
-use crate::step::{Answer, Counts, Input, Outcome, StepFault};
+use crate::step::{Answer, Counts, Request, StepFault};
 use crate::sys;
 use std::ffi::c_char;
 
@@ -9,10 +10,18 @@ use std::ffi::c_char;
 type LineFunction =
     unsafe extern "C" fn(*mut sys::Handle, u64, *mut c_char, usize, *mut u64) -> u32;
 
+/// A function of the library that lends or takes an object at once.
+type LoanFunction = unsafe extern "C" fn(*mut sys::Handle, u32, u64, *mut sys::Loan) -> u32;
+
+/// A function of the library that stores what it reads, and never fails.
+type ReadFunction<T> = unsafe extern "C" fn(*mut sys::Handle, *mut T) -> u32;
+
 /// A core. It alone owns its handle, and one call of it runs at a time, since each takes `&mut self`: these are the rules of `zuphinka.h`.
 /// Tokens are numbers here, and are never dereferenced.
 pub(crate) struct Core {
     handle: sys::Handle,
+    /// How many calls wait, or more: a task may be forgotten that waits.
+    tickets: u64,
 }
 
 // SAFETY: the library has no state except that of the handle, whose calls may come from any thread, one at a time.
@@ -69,12 +78,6 @@ impl Call {
     #[cold]
     pub fn lack_memory(&mut self) {
         *self = Call::ended(sys::END_OUT_OF_MEMORY);
-    }
-
-    /// It is not in progress any more.
-    #[cold]
-    pub fn cancel(&mut self) {
-        *self = Call::ended(sys::END_CANCELLED);
     }
 
     pub fn name(&self) -> CallName {
@@ -166,7 +169,7 @@ impl Core {
         let (text, size) = (settings.as_ptr().cast(), settings.len());
         // SAFETY: the handle is empty, the text has this size, and no two overlap.
         match unsafe { sys::zuphinka_open_with(&mut handle, text, size, options) } {
-            sys::STATUS_DONE => Ok(Core { handle }),
+            sys::STATUS_DONE => Ok(Core { handle, tickets: 0 }),
             sys::STATUS_OUT_OF_MEMORY => Err(OpenFault::OutOfMemory),
             status => Err(OpenFault::Settings(status)),
         }
@@ -182,6 +185,7 @@ impl Core {
             caller: start.caller,
             kind: start.kind as u32,
         };
+        let waited = call.effects.has_ticket;
         let (name, effects) = (&mut call.name.0, &mut call.effects);
         // SAFETY: the handle is this core's, and no two of the four overlap.
         match unsafe { sys::zuphinka_begin(&mut self.handle, &start, name, effects) } {
@@ -189,6 +193,22 @@ impl Core {
             sys::STATUS_OUT_OF_MEMORY => call.lack_memory(),
             status => unreachable!("the beginning of a call has status {status}"),
         }
+        self.count_ticket(waited, call);
+    }
+
+    /// Counts the ticket of a call that waited before, or did not.
+    #[inline]
+    fn count_ticket(&mut self, waited: bool, call: &Call) {
+        self.tickets += u64::from(call.effects.has_ticket);
+        self.tickets -= u64::from(waited);
+    }
+
+    /// Ends a call that is not in progress any more.
+    #[cold]
+    pub fn cancel(&mut self, call: &mut Call) {
+        let waited = call.effects.has_ticket;
+        *call = Call::ended(sys::END_CANCELLED);
+        self.count_ticket(waited, call);
     }
 
     /// Goes on with a call after a report of its last action. Returns whether it was in progress.
@@ -200,13 +220,15 @@ impl Core {
             caller: event.caller,
             report: event.report as u32,
         };
+        let waited = call.effects.has_ticket;
         let (name, effects) = (&call.name.0, &mut call.effects);
         // SAFETY: the handle is this core's, and no two of the four overlap.
         match unsafe { sys::zuphinka_advance(&mut self.handle, name, &event, effects) } {
-            sys::STATUS_DONE => true,
-            sys::STATUS_NO_CALL => false,
+            sys::STATUS_DONE => self.count_ticket(waited, call),
+            sys::STATUS_NO_CALL => return false,
             status => unreachable!("a report to a call has status {status}"),
         }
+        true
     }
 
     /// Gives a call up that waits. Returns the ticket of the call to wake.
@@ -228,6 +250,10 @@ impl Core {
     /// Returns the ticket of the next call to wake.
     #[inline]
     pub fn next_wake(&mut self) -> Option<u64> {
+        if self.tickets == 0 {
+            debug_assert_eq!(self.waiting(), 0);
+            return None;
+        }
         let mut ticket = 0;
         // SAFETY: the handle is this core's.
         match unsafe { sys::zuphinka_next_wake(&mut self.handle, &mut ticket) } {
@@ -237,21 +263,22 @@ impl Core {
         }
     }
 
-    fn state(&mut self) -> sys::Activity {
-        let mut state = sys::Activity::default();
-        // SAFETY: the handle is this core's.
-        let status = unsafe { sys::zuphinka_state(&mut self.handle, &mut state) };
+    /// Returns what a function of the library stores that only reads.
+    fn read<T: Default>(&mut self, function: ReadFunction<T>) -> T {
+        let mut value = T::default();
+        // SAFETY: the handle is this core's, and does not overlap the value.
+        let status = unsafe { function(&mut self.handle, &mut value) };
         debug_assert_eq!(status, sys::STATUS_DONE);
-        state
+        value
     }
 
     /// Returns the number of calls that wait.
     pub fn waiting(&mut self) -> u64 {
-        self.state().waiting
+        self.read(sys::zuphinka_state).waiting
     }
 
     pub fn is_closed(&mut self) -> bool {
-        self.state().is_closed
+        self.read(sys::zuphinka_state).is_closed
     }
 
     /// Takes one step, and appends its entry. Returns the answer, and a token: that of an idle object that is taken, or the one that was passed
@@ -261,13 +288,17 @@ impl Core {
         &mut self,
         caller: u32,
         at: u64,
-        input: Input,
+        request: Request,
         token: u64,
     ) -> Result<(Answer, u64), StepFault> {
-        let mut request = request_of(input);
-        request.caller = caller;
-        request.at = at;
-        request.object = token as usize;
+        let request = sys::Request {
+            at,
+            number: request.id,
+            object: token as usize,
+            caller,
+            input: request.input as u32,
+            outcome: request.outcome as u32,
+        };
         let mut reply = sys::Reply::default();
         // SAFETY: the handle is this core's, and no two of the three overlap.
         match unsafe { sys::zuphinka_step(&mut self.handle, &request, &mut reply) } {
@@ -282,58 +313,42 @@ impl Core {
     /// calls of `next_wake` are to be woken then.
     #[inline(always)]
     pub fn lend(&mut self, caller: u32, at: u64) -> Option<(u64, u64)> {
-        let mut loan = sys::Loan::default();
-        // SAFETY: the handle is this core's, and does not overlap the loan.
-        match unsafe { sys::zuphinka_lend(&mut self.handle, caller, at, &mut loan) } {
-            sys::STATUS_DONE => Some((loan.id, loan.object as u64)),
-            sys::STATUS_NOT_AT_ONCE => None,
-            status => unreachable!("a loan has status {status}"),
-        }
+        self.loan_by(sys::zuphinka_lend, caller, at)
     }
 
     /// Takes an idle object by the first step of a borrow that begins now. Returns the object's id and its token; nothing if the borrow is to be
     /// begun. The calls of `next_wake` are to be woken then.
     #[inline(always)]
     pub fn take(&mut self, caller: u32, at: u64) -> Option<(u64, u64)> {
+        self.loan_by(sys::zuphinka_take, caller, at)
+    }
+
+    #[inline(always)]
+    fn loan_by(&mut self, function: LoanFunction, caller: u32, at: u64) -> Option<(u64, u64)> {
         let mut loan = sys::Loan::default();
         // SAFETY: the handle is this core's, and does not overlap the loan.
-        match unsafe { sys::zuphinka_take(&mut self.handle, caller, at, &mut loan) } {
-            sys::STATUS_DONE => Some((loan.id, loan.object as u64)),
-            sys::STATUS_NOT_AT_ONCE => None,
-            status => unreachable!("a first step has status {status}"),
-        }
+        let status = unsafe { function(&mut self.handle, caller, at, &mut loan) };
+        is_done_at_once(status).then_some((loan.id, loan.object as u64))
     }
 
     /// Takes the first step of the return of an object. Returns whether it does; otherwise the return is to be begun.
     #[inline(always)]
     pub fn check(&mut self, caller: u32, at: u64, id: u64) -> bool {
         // SAFETY: the handle is this core's.
-        match unsafe { sys::zuphinka_check(&mut self.handle, caller, at, id) } {
-            sys::STATUS_DONE => true,
-            sys::STATUS_NOT_AT_ONCE => false,
-            status => unreachable!("a first step has status {status}"),
-        }
+        is_done_at_once(unsafe { sys::zuphinka_check(&mut self.handle, caller, at, id) })
     }
 
     /// Takes a lent object back, if it is idle after the two steps of its return: takes both. Returns whether it does.
     #[inline(always)]
     pub fn take_back(&mut self, caller: u32, at: u64, id: u64, token: u64) -> bool {
         let object = token as usize;
+        let loan = sys::Loan { id, object };
         // SAFETY: the handle is this core's, and does not overlap the loan.
-        match unsafe {
-            sys::zuphinka_take_back(&mut self.handle, caller, at, &sys::Loan { id, object })
-        } {
-            sys::STATUS_DONE => true,
-            sys::STATUS_NOT_AT_ONCE => false,
-            status => unreachable!("a return has status {status}"),
-        }
+        is_done_at_once(unsafe { sys::zuphinka_take_back(&mut self.handle, caller, at, &loan) })
     }
 
     pub fn counts(&mut self) -> Counts {
-        let mut counts = sys::Counts::default();
-        // SAFETY: the handle is this core's.
-        let status = unsafe { sys::zuphinka_counts(&mut self.handle, &mut counts) };
-        debug_assert_eq!(status, sys::STATUS_DONE);
+        let counts = self.read(sys::zuphinka_counts);
         Counts {
             steps: counts.steps,
             idle: counts.idle,
@@ -348,20 +363,12 @@ impl Core {
 
     /// Returns the number of entries since the last cut.
     pub fn steps(&mut self) -> u64 {
-        let mut steps = 0;
-        // SAFETY: the handle is this core's.
-        let status = unsafe { sys::zuphinka_steps(&mut self.handle, &mut steps) };
-        debug_assert_eq!(status, sys::STATUS_DONE);
-        steps
+        self.read(sys::zuphinka_steps)
     }
 
     /// Returns how many entries the journal can still take, besides the outstanding ones.
     pub fn room(&mut self) -> u64 {
-        let mut room = 0;
-        // SAFETY: the handle is this core's.
-        let status = unsafe { sys::zuphinka_room(&mut self.handle, &mut room) };
-        debug_assert_eq!(status, sys::STATUS_DONE);
-        room
+        self.read(sys::zuphinka_room)
     }
 
     /// Appends the line of the entry at a position, from 0, with its line feed. Returns whether there is one.
@@ -446,35 +453,13 @@ impl Drop for Core {
     }
 }
 
-/// Returns the request for an input, in the library's codes.
-#[inline]
-fn request_of(input: Input) -> sys::Request {
-    let plain = |input, number| (input, number, 0);
-    let told = |input, number, outcome| (input, number, outcome_code(outcome));
-    let (input, number, outcome) = match input {
-        Input::Ready { id, outcome } => told(sys::INPUT_READY, id, outcome),
-        Input::GiveBack { id } => plain(sys::INPUT_RETURN, id),
-        Input::Park { id, outcome } => told(sys::INPUT_PARK, id, outcome),
-        Input::EvictNext => plain(sys::INPUT_EVICT_NEXT, 0),
-        Input::Tested { id, outcome } => told(sys::INPUT_TESTED, id, outcome),
-        Input::Destroyed { id } => plain(sys::INPUT_DESTROYED, id),
-    };
-    sys::Request {
-        at: 0,
-        number,
-        object: 0,
-        caller: 0,
-        input,
-        outcome,
-    }
-}
-
-fn outcome_code(outcome: Outcome) -> u32 {
-    match outcome {
-        Outcome::Good => sys::OUTCOME_GOOD,
-        Outcome::ActivateFailed => sys::OUTCOME_ACTIVATE_FAILED,
-        Outcome::TestFailed => sys::OUTCOME_TEST_FAILED,
-        Outcome::PassivateFailed => sys::OUTCOME_PASSIVATE_FAILED,
+/// Returns whether steps were taken at once; otherwise the call that takes them is to be begun.
+#[inline(always)]
+fn is_done_at_once(status: u32) -> bool {
+    match status {
+        sys::STATUS_DONE => true,
+        sys::STATUS_NOT_AT_ONCE => false,
+        status => unreachable!("steps that are taken at once have status {status}"),
     }
 }
 

@@ -152,7 +152,7 @@ impl<M: Manager> Shared<M> {
         mem::forget(state.journal.room_wakers.take_all());
         mem::forget(self.outlet.take());
         mem::forget(Arc::clone(&self.manager));
-        mem::forget(mem::replace(&mut self.clock, Clock::Since(Instant::now())));
+        mem::forget(mem::replace(&mut self.clock, Clock::Since(0)));
         self.policy.reports.leak();
         mem::forget(self.policy.leaks.take());
         let maintainer = self.maintainer.get_mut();
@@ -174,10 +174,13 @@ impl<M: Manager> Shared<M> {
     /// Returns the time. If the clock panics, it is that of the last entry.
     #[inline]
     pub fn now(&self) -> Moment {
-        match self.clock.read() {
-            Some(moment) => moment,
-            None => Moment::of_millis(self.lock().last_time()),
-        }
+        let read = self.clock.read();
+        read.unwrap_or_else(|| self.time_of_last_entry())
+    }
+
+    #[cold]
+    fn time_of_last_entry(&self) -> Moment {
+        Moment::of_millis(self.lock().last_time())
     }
 
     /// Returns until when a call that began to wait at an instant does so by the settings, if the pool's clock is the user's: such a clock may be set
@@ -237,7 +240,7 @@ impl<M: Manager> Shared<M> {
 
     /// Frees the lock, and wakes the calls that may find something: those that the core has told, and then those that it tells. Then it writes a
     /// segment if one is due.
-    #[inline]
+    #[inline(always)]
     pub fn leave(&self, state: Held<'_, M>, wakes: Wakes) {
         let is_due = state.journal.wants_writer();
         self.leave_with_loan(state, wakes);
@@ -247,7 +250,7 @@ impl<M: Manager> Shared<M> {
     }
 
     /// Does the same in a call that lends an object, works on one or waits: it goes on at once, and a later call writes the segment.
-    #[inline]
+    #[inline(always)]
     pub fn leave_with_loan(&self, state: Held<'_, M>, wakes: Wakes) {
         match wakes.is_empty() {
             true => drop(state),
@@ -256,11 +259,12 @@ impl<M: Manager> Shared<M> {
     }
 
     /// Wakes calls, each without the lock. If the waker of a task panics, its call is given up, and another one is woken in its place.
+    #[cold]
     fn wake<'a>(&'a self, mut state: Held<'a, M>, mut wakes: Wakes) {
         while let Some(ticket) = wakes.pop() {
             let alarm = state.sleepers.wake(ticket);
             if wakes.is_empty() {
-                wakes.push(state.next_wake());
+                wakes.push(state.core.next_wake());
             }
             let Some(alarm) = alarm else {
                 continue;
@@ -275,7 +279,7 @@ impl<M: Manager> Shared<M> {
                 // A waker may let its task go on, and panic then.
                 wakes.push(match state.sleepers.woken.forget(ticket) {
                     true => state.core.give_up(call),
-                    false => state.next_wake(),
+                    false => state.core.next_wake(),
                 });
             }
         }
@@ -285,8 +289,7 @@ impl<M: Manager> Shared<M> {
     /// meanwhile, and takes it again.
     pub fn pass_wakes_on<'a>(&'a self, mut state: Held<'a, M>) -> Held<'a, M> {
         while let Some(call) = state.take_unheeded() {
-            let mut wakes = Wakes::default();
-            wakes.push(state.core.give_up(call));
+            let wakes = Wakes::of(state.core.give_up(call));
             self.leave_with_loan(state, wakes);
             state = self.lock();
         }

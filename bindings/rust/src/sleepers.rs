@@ -67,6 +67,14 @@ pub(crate) struct Wakes {
 }
 
 impl Wakes {
+    /// Those of a step or of a call: one ticket, if it told one.
+    #[inline]
+    pub fn of(ticket: Option<u64>) -> Wakes {
+        let mut wakes = Wakes::default();
+        wakes.push(ticket);
+        wakes
+    }
+
     #[inline]
     pub fn is_empty(&self) -> bool {
         self.len == 0

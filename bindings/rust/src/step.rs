@@ -1,25 +1,50 @@
 //! The steps of the core that a pool takes by itself, for pairs with hooks and for the age of its objects. `docs/definitions.md` defines each.
 
+use crate::sys;
 use std::io;
 
-/// What a step asks of the core.
-#[derive(Clone, Copy, Debug, PartialEq, Eq)]
+/// The input of a step.
+#[derive(Clone, Copy, Debug)]
+#[repr(u32)]
 pub(crate) enum Input {
-    Ready { id: u64, outcome: Outcome },
-    GiveBack { id: u64 },
-    Park { id: u64, outcome: Outcome },
-    EvictNext,
-    Tested { id: u64, outcome: Outcome },
-    Destroyed { id: u64 },
+    Ready = sys::INPUT_READY,
+    GiveBack = sys::INPUT_RETURN,
+    Park = sys::INPUT_PARK,
+    EvictNext = sys::INPUT_EVICT_NEXT,
+    Tested = sys::INPUT_TESTED,
+    Destroyed = sys::INPUT_DESTROYED,
 }
 
 /// The outcome of the manager's work on an object.
-#[derive(Clone, Copy, Debug, PartialEq, Eq)]
+#[derive(Clone, Copy, Debug)]
+#[repr(u32)]
 pub(crate) enum Outcome {
-    Good,
-    ActivateFailed,
-    TestFailed,
-    PassivateFailed,
+    Good = sys::OUTCOME_GOOD,
+    ActivateFailed = sys::OUTCOME_ACTIVATE_FAILED,
+    TestFailed = sys::OUTCOME_TEST_FAILED,
+    PassivateFailed = sys::OUTCOME_PASSIVATE_FAILED,
+}
+
+/// What a step asks of the core. The core reads the id and the outcome if the input has them.
+#[derive(Clone, Copy, Debug)]
+pub(crate) struct Request {
+    pub input: Input,
+    pub id: u64,
+    pub outcome: Outcome,
+}
+
+impl Request {
+    /// A request for an object. If it reports work, that was good.
+    #[inline]
+    pub fn of(input: Input, id: u64) -> Request {
+        let outcome = Outcome::Good;
+        Request { input, id, outcome }
+    }
+
+    /// The same with another outcome.
+    pub fn with(self, outcome: Outcome) -> Request {
+        Request { outcome, ..self }
+    }
 }
 
 /// The answer of the core.
