@@ -3,6 +3,7 @@
 import argparse
 import os
 import pathlib
+import re
 import subprocess
 import sys
 import tempfile
@@ -22,29 +23,22 @@ PACKAGES = (
     "libcommons-pool2-java", "libcommons-dbcp2-java", "libhikaricp-java", "librust-r2d2-dev", "librust-tokio-dev", "librust-tokio-postgres-dev",
     "libpostgresql-jdbc-java", "libpq-dev", "default-jdk-headless", "gcc",
 )
+# The lines of the tables that were printed, each table behind an empty line.
+TABLES = []
 
 
 class Miscounted(Exception):
     """A run failed, or reported other counts than its work has."""
 
 
-def processor():
-    """The number of processors and the model of the first one."""
-    with open("/proc/cpuinfo") as file:
-        names = [line.split(":", 1)[1].strip() for line in file if line.startswith("model name")]
-    return f"{len(names)} processors, {names[0]}" if names else "an unknown processor"
-
-
-def moment():
-    """The date, the time, and the load average of the last minute."""
-    return f"{time.strftime('%Y-%m-%d %H:%M %Z')}, load average {os.getloadavg()[0]:.2f}"
-
-
 def announce(work):
-    """Prints the machine, the versions of what is installed, and the work."""
+    """Prints the processors, the versions of what is installed, the time with the load of the last minute, and the work."""
+    names = re.findall(r"^model name\s*: (.*)$", pathlib.Path("/proc/cpuinfo").read_text(), flags=re.MULTILINE)
     words = "dpkg-query", "--show", "--showformat=${Package} ${Version}, ", *PACKAGES
     installed = subprocess.run(words, stdout=subprocess.PIPE, stderr=subprocess.DEVNULL, text=True).stdout
-    print(processor(), f"{installed}{version_of('rustc', '--version')}", f"{moment()}; {work}\n", sep="\n", flush=True)
+    print(f"{len(names)} processors, {names[0]}" if names else "an unknown processor")
+    print(f"{installed}{version_of('rustc', '--version')}")
+    print(f"{time.strftime('%Y-%m-%d %H:%M %Z')}, load average {os.getloadavg()[0]:.2f}; {work}", flush=True)
 
 
 def times():
@@ -60,18 +54,14 @@ class Meter:
     def __init__(self):
         self.began = times()
 
-    def shares(self):
-        """The shares of all processor time that other programs and other machines took, from 0 to 1."""
+    def __str__(self):
+        """The shares of all processor time that other programs and other machines took."""
         (ticks, own), (old_ticks, old_own) = times(), self.began
         user, nice, system, idle, iowait, irq, softirq, steal = (new - old for new, old in zip(ticks, old_ticks))
         busy = user + nice + system + irq + softirq
         whole = max(1, busy + idle + iowait + steal)
         others = max(0, busy - (own - old_own) * os.sysconf("SC_CLK_TCK"))
-        return others / whole, steal / whole
-
-    def __str__(self):
-        others, stolen = self.shares()
-        return f"other programs took {others:.1%} of the processor time, other machines {stolen:.1%}"
+        return f"\nother programs took {others / whole:.1%} of the processor time, other machines {steal / whole:.1%}"
 
 
 def build(*command, **options):
@@ -148,23 +138,41 @@ def entered(builders, wanted):
     return found or sys.exit("nothing to run")
 
 
-def parser_of(description):
-    """A parser of the options that all comparisons have."""
+def parser_of(description, *names, **defaults):
+    """A parser of these options and of --page, perhaps with other defaults."""
     parser = argparse.ArgumentParser(description=description, formatter_class=argparse.RawDescriptionHelpFormatter)
-    parser.add_argument("--only", metavar="COLUMN", action="append")
-    parser.add_argument("--rounds", type=int, default=5)
-    parser.add_argument("--library", type=pathlib.Path, default=LIBRARY)
-    parser.add_argument("--registry", type=pathlib.Path, default=REGISTRY)
+    path = {"type": pathlib.Path}
+    options = {
+        "only": {"metavar": "COLUMN", "action": "append"}, "rounds": {"type": int, "default": 5}, "pool": path, "judge": path,
+        "library": path | {"default": LIBRARY}, "registry": path | {"default": REGISTRY},
+        "page": {"metavar": "MARK", "nargs": "?", "const": f"bench/{parser.prog}", "help": "write the tables to docs/speed.md, behind this mark"},
+    }
+    for name in (*names, "page"):
+        parser.add_argument(f"--{name}", **options[name])
+    parser.set_defaults(**defaults)
     return parser
 
 
+def print_line(line):
+    TABLES.append(f"{line}\n")
+    print(line, flush=True)
+
+
 def print_row(*cells):
-    print("| " + " | ".join(cells) + " |", flush=True)
+    print_line("| " + " | ".join(cells) + " |")
 
 
 def print_head(*cells):
+    print_line("")
     print_row(*cells)
-    print("|---" * len(cells) + "|")
+    print_line("|---" * len(cells) + "|")
+
+
+def write_page(mark):
+    """Puts all tables that were printed into docs/speed.md, between the line `<!-- MARK -->` and the next `<!-- end -->`."""
+    page, line = TOP / "docs/speed.md", f"<!-- {mark} -->\n"
+    before, _, behind = page.read_text().partition(line)
+    page.write_text(f"{before}{line}{''.join(TABLES).strip()}\n{behind[behind.index('<!-- end -->'):]}")
 
 
 def measured(title, rows, name_of, race, form):
@@ -175,14 +183,15 @@ def measured(title, rows, name_of, race, form):
         if len(found) == 1:
             print_head(title, *found[0])
         print_row(name_of(row), *map(form, found[-1].values()))
-    print()
     return found
 
 
-def play(compare, *words):
-    """Calls this with a temporary folder and the words. Ends this process if a run failed."""
+def play(compare, asked):
+    """Calls this with a temporary folder and what was asked for, and writes the tables to the page if that was. Ends this process if a run failed."""
     with tempfile.TemporaryDirectory(prefix="zuphinka-", ignore_cleanup_errors=True) as folder:
         try:
-            compare(pathlib.Path(folder), *words)
+            compare(pathlib.Path(folder), asked)
         except Miscounted as error:
             sys.exit(f"a run failed: {error}")
+    if asked.page:
+        write_page(asked.page)

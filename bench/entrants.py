@@ -72,11 +72,6 @@ def numbers(report, *words):
     return [int(text) if text.isdecimal() else -1 for text in (report.get(word, "") for word in words)]
 
 
-def is_right_peer(row, report):
-    pairs, created = numbers(report, "pairs", "created")
-    return pairs == row.pairs and 1 <= created <= row.objects
-
-
 def is_right_load(row, report):
     """A pair that is kept in a journal is four entries at least, an object two more in the end, and the close one."""
     created, destroyed = numbers(report, "created", "destroyed")
@@ -90,7 +85,12 @@ def is_right_load(row, report):
 
 def peer(column, program):
     """A program that is given the numbers of a row."""
-    return {column: Entrant([column], lambda row: [program, row.objects, row.threads, row.each], is_right_peer)}
+
+    def is_right(row, report):
+        pairs, created = numbers(report, "pairs", "created")
+        return pairs == row.pairs and 1 <= created <= row.objects
+
+    return {column: Entrant([column], lambda row: [program, row.objects, row.threads, row.each], is_right)}
 
 
 def contestants(program, factory, columns):
