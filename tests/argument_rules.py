@@ -1,7 +1,7 @@
 """The rules of the program's arguments, read from docs/journal.md, and a comparison of the program with them over lists of words.
 
 The program runs in a folder with one file, THERE, which is empty. As settings it gives the defaults, as a script or a journal it has no line.
-So an answer takes no time and is known from the words alone: this module never asks the program what is right.
+So an answer takes no time and is known from the words alone.
 """
 
 import concurrent.futures
@@ -14,7 +14,6 @@ import re
 
 from case_model import STATISTICS
 from playing import TOP, run
-
 
 THERE = "there"
 COMMANDS = ["run", "check", "stats", "load"]
@@ -39,27 +38,18 @@ def version():
     return b"pool " + (TOP / "VERSION").read_bytes()
 
 
-def operands_of(words):
-    """The operands among the words after the command, or None if one of them is an option."""
-    before = [*itertools.takewhile("--".__ne__, words)]
-    has_option = any(len(word) > 1 and word[0] == "-" for word in before)
-    return None if has_option else before + words[len(before) + 1 :]
-
-
 def number_below(limit, word):
     """The number that the word spells, or None."""
     return int(word) if re.fullmatch(r"0|[1-9][0-9]*", word) and int(word) < limit else None
 
 
 def task_of(words):
-    """The command that the words name, with its operands, or None if they are wrong. Numbers are read."""
+    """The command that the words name, with its operands, or None if they are wrong. Numbers are read. What is behind `--` is no option."""
     command, *rest = words
-    operands = operands_of(rest)
-    if command not in COMMANDS or operands is None:
-        return None
-    if command == "check":
-        return (command, operands) if len(operands) >= 2 else None
-    if len(operands) != OPERANDS[command]:
+    before = [*itertools.takewhile("--".__ne__, rest)]
+    operands = before + rest[len(before) + 1 :]
+    is_counted = len(operands) >= 2 if command == "check" else len(operands) == OPERANDS.get(command)
+    if not is_counted or any(len(word) > 1 and word[0] == "-" for word in before):
         return None
     if command == "load":
         settings, workers, rounds = operands
@@ -91,9 +81,7 @@ def answer_of_load(workers, rounds):
 
 def answer(words):
     """The output, the error and the status that the program must give for the words, with nothing on standard input."""
-    if not words:
-        return b"", b"", 0
-    task = task_of(words)
+    task = task_of(words) if words else ("run", [THERE])
     if task is None:
         return refusal(words)
     command, operands = task
@@ -102,8 +90,7 @@ def answer(words):
         return b"", f"pool: cannot open {lost}\n".encode(), 3
     if command == "load":
         return answer_of_load(*operands[1:])
-    output = {"run": b"", "check": b"legal 0\n", "stats": statistics(*[0] * len(STATISTICS))}[command]
-    return output, b"", 0
+    return {"run": b"", "check": b"legal 0\n", "stats": statistics(*[0] * len(STATISTICS))}[command], b"", 0
 
 
 def lists():
@@ -134,8 +121,7 @@ def is_help(output):
 
 def found(done):
     """What a run gave, with USES for the uses."""
-    output = USES if done.stdout and is_help(done.stdout) else done.stdout
-    return output, done.stderr, done.returncode
+    return USES if done.stdout and is_help(done.stdout) else done.stdout, done.stderr, done.returncode
 
 
 def differences(program, folder, words):

@@ -126,12 +126,6 @@ def read_file(path):
     return re.match(r"(?:#.*\n)*", text)[0].splitlines(), [case_of(name, table) for name, table in tomllib.loads(text).items()]
 
 
-def full_name(path, case):
-    """The name of a case with that of its file, from the folder of all cases on."""
-    path = path.resolve().with_suffix("")
-    return f"{path.relative_to(CASES) if path.is_relative_to(CASES) else path.name}/{case.name}"
-
-
 def files_of(paths):
     """The files of cases among the paths, and below those that are folders."""
     for path in map(pathlib.Path, paths):
@@ -142,8 +136,9 @@ def read_cases(*paths):
     """The cases of files, and of all files below folders. Their names begin with those of their files. With those of all files come the ones that
     make_cases.py makes from seeds."""
     for path in files_of(paths):
-        for case in read_file(path)[1]:
-            yield dataclasses.replace(case, name=full_name(path, case))
+        whole = path.resolve().with_suffix("")
+        name = whole.relative_to(CASES) if whole.is_relative_to(CASES) else path.stem
+        yield from (dataclasses.replace(case, name=f"{name}/{case.name}") for case in read_file(path)[1])
     if CASES in (pathlib.Path(path).resolve() for path in paths):
         import make_cases
 
@@ -197,20 +192,17 @@ def written_list(values):
 
 def written_case(case):
     """The lines of a case: its name, and each key that it has."""
-    yield from ("", f"[{case.name}]")
-    if case.settings or case.answer is not None:
-        yield f"settings = {written_text(case.settings)}"
-    yield from (f"{key} = {written_text(text)}" for key, text in (("run", case.journal), ("claim", case.whole_claim)) if text is not None)
-    if case.error is not None:
-        yield from (f"rest = {written_text(case.rest)}", f"error = {written_line(case.error)}")
-    if case.statistics is not None:
-        yield f"statistics = {written_statistics(case.statistics)}"
-    if case.changes:
-        yield f"changed = {written_list(f'[{first}, {last}, {written_text(text)}]' for first, last, text in case.changes)}"
-    if case.segments:
-        texts, statistics = zip(*case.segments)
-        yield from (f"segments = {written_list(map(written_text, texts))}", f"statistics = {written_list(map(written_statistics, statistics))}")
-    yield from (f"{key} = {written_line(text)}" for key, text in (("verdict", case.verdict), ("answer", case.answer)) if text is not None)
+    texts, statistics = zip(*case.segments) if case.segments else (None, None)
+    changes = [f"[{first}, {last}, {written_text(text)}]" for first, last, text in case.changes]
+    rows = [
+        ("settings", written_text, case.settings if case.settings or case.answer is not None else None), ("run", written_text, case.journal),
+        ("claim", written_text, case.whole_claim), ("rest", written_text, None if case.error is None else case.rest),
+        ("error", written_line, case.error), ("statistics", written_statistics, case.statistics), ("changed", written_list, changes or None),
+        ("segments", lambda texts: written_list(map(written_text, texts)), texts),
+        ("statistics", lambda many: written_list(map(written_statistics, many)), statistics),
+        ("verdict", written_line, case.verdict), ("answer", written_line, case.answer),
+    ]
+    yield from ("", f"[{case.name}]", *(f"{key} = {write(value)}" for key, write, value in rows if value is not None))
 
 
 def written(heading, cases):

@@ -6,7 +6,7 @@ A text that begins with `pool:` is written to standard error, and the status is 
 import re
 import tomllib
 
-from pool_model import DEFAULTS, OF_ABANDONED, LineFault, is_evicting, read_entry, read_head, read_record, read_request, told, words_of
+from pool_model import DEFAULTS, OF_ABANDONED, LineFault, is_evicting, read_base_line, read_entry, told, words_of
 
 # The ranges of the numbers in a settings file; the other settings are true or false.
 COUNT, MILLIS, DELAY = (-(2**31), 2**31 - 1), (-1, 2**53), (0, 2**53)
@@ -29,7 +29,7 @@ def run(pool, script, first):
     start, entries = 0, []
     try:
         while start < len(script):
-            at, asked, end = read_request(script, start)
+            at, asked, _, end = read_entry(script, start, False)
             answer = pool.take(at, asked, first)
             entries.append(script[start : end - 1] + b" = " + words_of(answer) + b"\n")
             start = end
@@ -79,11 +79,9 @@ def statistics_of(text):
             if line > of_base:
                 *entry, start = read_entry(text, start)
                 tally.take(*entry)
-            elif line > 1:
-                _, start = read_record(text, start)
             else:
-                head, start = read_head(text)
-                of_base += int(head.split(b" ")[-1])
+                found, start = read_base_line(text, start)
+                of_base += int(found.split(b" ")[-1]) if line == 1 else 0
     except LineFault as fault:
         return told(line, fault)
     return tally.text()

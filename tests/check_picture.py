@@ -1,6 +1,6 @@
 """Draws journals, and compares each picture with a plain reading of the journal (tests/picture_model.py).
 
-check_picture.py PROGRAM CASES..  The last line is 'N passed, M failed'.
+    check_picture.py PROGRAM CASES..
 
 - A picture is well-formed XML. That of a short journal has a bar for each phase of each object and for each wait, with its caller and times,
   and each bar is where its times are. That of a long one (over 10,000 entries) has the least and greatest levels and the marks of each bucket,
@@ -12,14 +12,14 @@ check_picture.py PROGRAM CASES..  The last line is 'N passed, M failed'.
 """
 
 import pathlib
+import random
 import re
 import sys
 import xml.etree.ElementTree as xml
 
 import picture_model
-import random
 from case_files import unpacked
-from play_damaged import SETTINGS, journal_by_chance
+from play_segments import SETTINGS, journal_by_chance
 from playing import TOP, differing, preloaded, refusals, run, scratch, tell, write_files
 from pool_model import cut_at, settings_of
 
@@ -34,10 +34,7 @@ HINT = re.compile(
 TOTALS = dict(zip(("Refused", "Without", "Evicted", "Reclaimed", "Failed"), picture_model.KINDS))
 WRONG = "journal_picture: wrong arguments; try journal_picture --help\n"
 ARGUMENTS = [
-    ([], 2, WRONG),
-    (["-x"], 2, WRONG),
-    (["a", "--draw"], 2, WRONG),
-    (["/nowhere"], 3, "journal_picture: /nowhere: cannot open the journal\n"),
+    ([], 2, WRONG), (["-x"], 2, WRONG), (["a", "--draw"], 2, WRONG), (["/nowhere"], 3, "journal_picture: /nowhere: cannot open the journal\n"),
     (["/"], 3, "journal_picture: /: read failed\n"),
 ]
 SEGMENT = "the segment does not begin where the one before it ends"
@@ -135,7 +132,9 @@ def duration_differences(picture, expected):
         if found["number"][column] != len(durations) or found["longest"][column] != max(durations, default=0):
             yield f"number or longest of {found}, expected {len(durations)} and {max(durations, default=0)}"
         for percent in picture_model.PERCENTS:
-            exact, shown = picture_model.quantile(durations, percent), found[f"p{percent}"][column]
+            # The shortest duration that so many percent do not exceed.
+            exact = sorted(durations)[max(0, -(-len(durations) * percent // 100) - 1)] if durations else 0
+            shown = found[f"p{percent}"][column]
             if not exact <= shown <= exact + exact // 64 or (exact < 128 and exact != shown):
                 yield f"p{percent}: {shown}, exactly it is {exact}"
 
@@ -240,46 +239,40 @@ def segment_differences(program, whole, files, stream):
 def broken(folder, files):
     """Segments that do not continue one another, with the line that reports it."""
     first, second, third = (str(file) for file in files[:3])
-    head, record, *others = pathlib.Path(second).read_text().splitlines()
-    words, fields = head.split(" "), record.split(" ")
-    position, length = words[2], picture_model.read(pathlib.Path(third).read_text()).position
+    head, *records = pathlib.Path(second).read_text().splitlines()
+    position, length = head.split(" ")[2], picture_model.read(pathlib.Path(third).read_text()).position
+    id, *fields = records[0].split(" ")
 
-    def with_word(texts, place, word):
-        return " ".join([*texts[:place], word, *texts[place + 1 :]])
+    def with_word(place, word):
+        return [" ".join([*head.split(" ")[:place], word, *head.split(" ")[place + 1 :]]), *records]
 
     yield [second, second], second, f"line 1: {SEGMENT}: position {position}, expected {length}"
     yield [first, third], third, f"line 1: {SEGMENT}: position {length}, expected {position}"
-    changed = {"plain": (["0 1 add = make 0"], 1, "it has no first line of a segment")}
+    used = " ".join([id, *fields[:4], str(int(fields[4]) + 1), *fields[5:]])
+    changed = [
+        (["0 1 add = make 0"], 1, "it has no first line of a segment"), (with_word(4, "closed"), 1, "whether the pool is closed"),
+        (with_word(5, "77777"), 1, "where the last object was examined"), ([head, "9" + records[0], *records[1:]], 2, f"object 9{id}"),
+        ([head, used, *records[1:]], 2, f"object {id}"), ([head, records[0], records[0], *records[2:]], 3, f"object {id}"),
+    ]
     for place, name in {3: "next id", 6: "destroyed", 7: "evicted", 8: "reclaimed", 9: "number of objects"}.items():
-        other = str(int(words[place]) + 1)
-        changed[f"changed-{place}"] = [with_word(words, place, other), record, *others], 1, f"{name} {other}, expected {words[place]}"
-    changed["closed"] = [with_word(words, 4, "closed"), record, *others], 1, "whether the pool is closed"
-    changed["cursor"] = [with_word(words, 5, "77777"), record, *others], 1, "where the last object was examined"
-    changed["used"] = [head, with_word(fields, 5, str(int(fields[5]) + 1)), *others], 2, f"object {fields[0]}"
-    changed["id"] = [head, with_word(fields, 0, "9" + fields[0]), *others], 2, f"object 9{fields[0]}"
-    changed["twice"] = [head, record, record, *others[1:]], 3, f"object {fields[0]}"
-    for name, (lines, number, what) in changed.items():
-        file = str(with_lines(folder / name, lines))
+        count = int(head.split(" ")[place])
+        changed.append((with_word(place, str(count + 1)), 1, f"{name} {count + 1}, expected {count}"))
+    for at, (lines, number, what) in enumerate(changed):
+        file = str(with_lines(folder / f"changed-{at}", lines))
         yield [first, file], file, f"line {number}: {SEGMENT}: {what}"
 
 
 def damaged(folder):
     """Damaged files, with the line that reports it."""
-    whole = "0 0 borrow 0 = make 0\n"
-    base = "pool-journal 2 5 1 open none 0 0 0 2\n"
-    texts = {
-        "cut": (whole + "0 1 ready 0 good", "line 2: truncated"),
-        "word": (whole + "0 1 ready 0 good = lost\n", "line 2: not a line"),
-        "number": (whole + "0 01 ready 0 good = lent\n", "line 2: bad number"),
-        "long": (whole + "0" * 300 + "\n", "line 2: line too long"),
-        "empty line": (whole + "\n" + whole, "line 2: not a line"),
-        "head": ("pool-journal 3 5 1 open none 0 0 0 2\n", "line 1: not a line"),
-        "no records": (base + "0 idle 3 16 11 11 old\n", "line 3: truncated"),
-        "an entry for a record": (base + whole, "line 2: not a line"),
-        "far": (whole * 30_000 + "x\n", "line 30001: not a line"),
-    }
-    for name, (text, message) in texts.items():
-        (file,) = write_files(folder, {name: text.encode()})
+    whole, base = b"0 0 borrow 0 = make 0\n", b"pool-journal 2 5 1 open none 0 0 0 2\n"
+    texts = [
+        (whole + b"0 1 ready 0 good", "line 2: truncated"), (whole + b"0 1 ready 0 good = lost\n", "line 2: not a line"),
+        (whole + b"0 01 ready 0 good = lent\n", "line 2: bad number"), (whole + b"0" * 300 + b"\n", "line 2: line too long"),
+        (whole + b"\n" + whole, "line 2: not a line"), (b"pool-journal 3 5 1 open none 0 0 0 2\n", "line 1: not a line"),
+        (base + b"0 idle 3 16 11 11 old\n", "line 3: truncated"), (base + whole, "line 2: not a line"),
+        (whole * 30_000 + b"x\n", "line 30001: not a line"),
+    ]
+    for file, (_, message) in zip(write_files(folder, {f"damaged-{at}": text for at, (text, _) in enumerate(texts)}), texts):
         yield [str(file)], str(file), message
 
 

@@ -1,10 +1,9 @@
-"""Sees that all tell the version that the file VERSION has: the Rust crate and its lock file, the descriptions of the Java library for Maven, the C
-header, the C library, the programs, the man page and the change log.
+"""Sees that all tell the version that the file VERSION has, and that the codes of the Rust crate and of the pool for Java are those of the C header.
 
     check_version.py [PROGRAM..]
 
 Each PROGRAM, a path, prints its name, the version and a line feed for `--version`. What the C library returns, and its contract, is the version as one
-number. Prints each that differs, and in the end the line 'N passed, M failed'.
+number.
 """
 
 import pathlib
@@ -24,6 +23,9 @@ PLACES = (
 )
 # The contract and the body of the library's function, which has the number twice.
 NUMBER = r"fn zuphinka_version\(\) -> u32\n    ensures \{ result ≡ (\d+) \}\n\{\n    ([\d_]+)\n\}"
+# The codes of each binding. A status is negative in Java.
+BOUND = {"bindings/rust/src/sys.rs": r"^pub const (\w+): u32 = (\d+);$"}
+BOUND |= {f"{JAVA}/src/io/github/zuphinka/Core.java": r"static final int ([A-Z]+_\w+) = -?(\d+);"}
 
 
 def found(pattern, name):
@@ -32,7 +34,7 @@ def found(pattern, name):
 
 
 def checks(version, programs):
-    """What tells a version: its name, what is wanted of it, and what it tells."""
+    """What tells a version or codes: its name, what is wanted of it, and what it tells."""
     major, minor, patch = map(int, version.split("."))
     number = major * 1_000_000 + minor * 1_000 + patch
     for name, pattern in PLACES:
@@ -42,6 +44,11 @@ def checks(version, programs):
     yield "the change log", True, version in found(r"^## \[(.*?)\]", "CHANGELOG.md")
     for program in map(pathlib.Path, programs):
         yield f"{program} --version", f"{program.name} {version}\n", run(program, "--version", text=True).stdout
+    codes = dict(found(r"ZUPHINKA_(\w+) = (\d+)", HEADER))
+    for name, pattern in BOUND.items():
+        bound = dict(found(pattern, name))
+        yield f"the codes of {name}", {code: codes[code] for code in codes if code in bound or re.match("REPORT|ACTION|END_(?!NONE)", code)}, bound
+
 
 
 if __name__ == "__main__":

@@ -2,16 +2,14 @@
 
     count_work.py POOL TALLY
 
-POOL is the program. Its allocations, the bytes that it holds, its reads and its writes are counted by a preloaded library
-(tests/count.c, built with the C compiler that CC names, or cc). Reads and writes must be within bounds that follow from the size of the buffers, the
-bytes within a quarter of what is said below of buffers and objects, and allocations few, however many lines and objects there are. Segments that are
-judged side by side must each be read once, so what was found of them ahead must be used: a segment that was judged again would be read twice. Each file
-of a check is opened once to see that it is there, once to be read, and once more if its base is read apart from its lines. None stays open.
+POOL is the program. Its allocations, the bytes that it holds, its reads and its writes are counted by a preloaded library (tests/count.c). Reads and
+writes must be within bounds that follow from the size of the buffers, the bytes within a quarter of what is said below of buffers and objects, and
+allocations few, however many lines and objects there are. Segments that are judged side by side must each be read once, so what was found of them ahead
+must be used. Each file of a check is opened once to see that it is there, once to be read, and once more if its base is read apart from its lines. None
+stays open.
 
 TALLY is the test program crates/test_counts, which cuts a pool of 100,000 objects, reads the base that tests/pool_model.py tells, compares
 and prints it, and opens a pool from it, which goes on as the model does. The allocations of each of these calls are counted.
-
-Prints each number that is out of its bounds, and in the end the line 'N passed, M failed'.
 """
 
 import pathlib
@@ -19,8 +17,7 @@ import subprocess
 import sys
 
 from many_objects import NO_LIMITS, segments_of
-from playing import ended, preloaded, run, scratch, tell
-from pool_model import settings_of
+from playing import ended, preloaded, run, scratch, tell, write_files
 
 # The buffer for what comes, that for what waits to be written, and the longest line. At most so many bytes less are read at once.
 BUFFER = 65_536
@@ -89,23 +86,20 @@ class Counter:
     def streams(self, name, command, counted, text, journal):
         """Reads and writes: the settings are read once, and to their end; then the text, by whole buffers but for a piece of a line."""
         settings = 0 if command == "stats" else 2
-        self.expect(f"{name}: reads", counted["reads"] - settings, text // BUFFER + 1, text // (BUFFER - LINE) + 2)
+        reads, ends = counted["reads"] - settings, 1 + settings // 2
+        self.expect(f"{name}: reads", reads, text // BUFFER + 1, text // (BUFFER - LINE) + 2)
         self.expect(f"{name}: least room for a read", counted["room"], CHUNK if settings else BUFFER - LINE, BUFFER)
-        self.expect(f"{name}: reads at the end", counted["ends"], 1 + settings // 2, 1 + settings // 2)
+        self.expect(f"{name}: reads at the end", counted["ends"], ends, ends)
+        self.expect(f"{name}: reads after the last write", counted["late"], 0, int(command == "run"))
+        # What waits is written where it fills the buffer, and before each read.
+        writes = (-(-journal // BUFFER), journal // (BUFFER - LINE) + reads) if command == "run" else (1, 1)
+        self.expect(f"{name}: writes", counted["writes"], *writes)
         if command == "run":
-            # What waits is written where it fills the buffer, and before each read.
-            reads = counted["reads"] - settings
             self.expect(f"{name}: written", counted["written"], journal, journal)
-            self.expect(f"{name}: writes", counted["writes"], -(-journal // BUFFER), journal // (BUFFER - LINE) + reads)
-            self.expect(f"{name}: reads after the last write", counted["late"], 0, 1)
-        else:
-            self.expect(f"{name}: writes", counted["writes"], 1, 1)
-            self.expect(f"{name}: reads after the verdict", counted["late"], 0, 0)
 
     def endless(self, name, arguments, front, line, wanted):
         """Gives the program a text without an end: it must answer, and leave, with what it had read."""
-        (self.folder / "small.toml").write_text("maxTotal = 1\njournalLimit = 1000\n")
-        (self.folder / "front").write_bytes(front)
+        write_files(self.folder, {"small.toml": b"maxTotal = 1\njournalLimit = 1000\n", "front": front})
         with subprocess.Popen(["sh", "-c", 'cat front; exec yes "$1"', "sh", line], cwd=self.folder, stdout=subprocess.PIPE) as text:
             try:
                 done = run(self.pool, *arguments, cwd=self.folder, env=self.environment, stdin=text.stdout)
@@ -118,15 +112,16 @@ class Counter:
 
 def play_endless(counter):
     legal, wait = b"0 0 borrow 0 = make 0\n", b"0 0 borrow 0 = wait\n"
-    illegal = (b"illegal 1 wait\n", b"", 1)
-    counter.endless("an illegal journal", ["check", "small.toml", "/dev/stdin"], legal + b"0 0 borrow 0 = exhausted\n", wait.strip(), illegal)
-    counter.endless("no journal", ["check", "small.toml", "/dev/stdin"], legal, b"nonsense", (b"", b"pool: line 2: not a line\n", 3))
-    counter.endless("no line", ["stats", "/dev/stdin"], legal, b"0 0 add lent", (b"", b"pool: line 2: not a line\n", 3))
-    counter.endless("one long line", ["stats", "/dev/stdin"], legal, b"a" * 256, (b"", b"pool: line 2: line too long\n", 3))
-    counter.endless("no script", ["run", "small.toml", "/dev/stdin"], b"0 0 borrow 0\n", b"x", (legal, b"pool: line 2: not a line\n", 3))
+    check, stats, run_it = (["check", "small.toml", "/dev/stdin"], ["stats", "/dev/stdin"], ["run", "small.toml", "/dev/stdin"])
+    illegal, no_line, long_line = (b"illegal 1 wait\n", b"", 1), (b"", b"pool: line 2: not a line\n", 3), (b"", b"pool: line 2: line too long\n", 3)
     # An object that is made for a borrower owes five entries until its place is free, and the open pool the one that closes it.
     full = legal + wait * (1000 - 6 - 1), b"pool: line 995: journal full\n", 3
-    counter.endless("a full journal", ["run", "small.toml", "/dev/stdin"], b"", b"0 0 borrow 0", full)
+    for name, words, front, line, wanted in (
+        ("an illegal journal", check, legal + b"0 0 borrow 0 = exhausted\n", wait.strip(), illegal), ("no journal", check, legal, b"nonsense", no_line),
+        ("no line", stats, legal, b"0 0 add lent", no_line), ("one long line", stats, legal, b"a" * 256, long_line),
+        ("no script", run_it, b"0 0 borrow 0\n", b"x", (legal, *no_line[1:])), ("a full journal", run_it, b"", b"0 0 borrow 0", full),
+    ):
+        counter.endless(name, words, front, line, wanted)
 
 
 def write_segments(counter, segments, uses):
@@ -156,17 +151,9 @@ def play_side_by_side(counter):
     counter.expect("12 segments, the last not to its end: files opened", counted["opened"], 1 + 2 * 12, 2 + 3 * 12)
 
 
-def counts_of(pool):
-    """The counts of a pool of the model, as TALLY tells them."""
-    phases = [held.phase for held in pool.objects.values()]
-    idle, lent = (sum(phase in named for phase in phases) for named in (("idle", "testing"), ("lent",)))
-    ended = pool.destroyed, pool.evicted, pool.reclaimed
-    return b"opened %d %d %d %d %d %d %d %d\n" % (pool.position, idle, lent, len(phases) - idle - lent, pool.drawn, *ended)
-
-
 def play_objects(counter, tally):
     """The calls of TALLY: how many allocations each takes behind the one before it, and what is told once all are made."""
-    segments, pool = segments_of(settings_of(NO_LIMITS), OBJECTS)
+    segments, pool = segments_of(OBJECTS)
     (_, first), (_, second), (base, rest) = segments
     (counter.folder / "journal").write_bytes(first + second)
     (counter.folder / "segment").write_bytes(base + rest)
@@ -176,7 +163,11 @@ def play_objects(counter, tally):
         allocations = counter.counted()["allocations"]
         counter.expect(f"{call} of {OBJECTS} objects: allocations", allocations - before, 0, most)
         before = allocations
-    counter.expect(f"{OBJECTS} objects: right answers {done}", int(ended(done) == (counts_of(pool), b"", 0)), 1, 1)
+    # The counts of the model's pool, as TALLY tells them.
+    phases = [held.phase for held in pool.objects.values()]
+    idle, lent = (sum(phase in named for phase in phases) for named in (("idle", "testing"), ("lent",)))
+    counts = pool.position, idle, lent, len(phases) - idle - lent, pool.drawn, pool.destroyed, pool.evicted, pool.reclaimed
+    counter.expect(f"{OBJECTS} objects: right answers {done}", int(ended(done) == (b"opened %d %d %d %d %d %d %d %d\n" % counts, b"", 0)), 1, 1)
 
 
 def main(pool, tally):

@@ -19,7 +19,7 @@ import sys
 
 from case_files import CASES, TOP, Case, files_of, lines_of, read_file, written
 from case_model import answer_to_settings, run, statistics_of
-from play_damaged import next_input, ways
+from play_segments import next_input, ways
 from playing import play_checks
 from pool_model import INPUTS, WORDS, Pool, cut_at, settings_of, verdict_of_segments, words_of
 
@@ -30,9 +30,7 @@ VALUES = {
     "minIdle": ("1", "2", "4"), "numTestsPerEvictionRun": ("-2", "0", "1", "9"), "softMinEvictableIdleMillis": ("1", "20"),
     "testWhileIdle": ("true",),
 }
-OF_ABANDONED = {
-    "removeAbandonedOnBorrow": ("true",), "removeAbandonedOnMaintenance": ("true",), "removeAbandonedTimeoutMillis": ("0", "20", "60"),
-}
+OF_ABANDONED = {"removeAbandonedOnBorrow": ("true",), "removeAbandonedOnMaintenance": ("true",), "removeAbandonedTimeoutMillis": ("0", "20", "60")}
 # What stands after a key of settings: values of all types, within and beyond all ranges.
 ANY_VALUES = (
     "true", "false", "0", "1", "3", "8", "-1", "-2", "-0", "+3", "03", "0x10", "1_000", "1.5", "inf", "2147483647", "2147483648", "-2147483648",
@@ -46,15 +44,11 @@ SHORTEST, LONGEST = 30, 80
 # Cases from seeds.
 
 
-def lines_by_chance(values, chance):
-    """A line of settings for each key, with one of its values, or none."""
-    return [f"{key} = {chance.choice(values[key])}\n" for key in values if chance.randrange(3) == 0]
-
-
 def settings_by_chance(chance):
-    lines = lines_by_chance(VALUES, chance)
+    """A line of settings for each key, with one of its values, or none; in half of them with a table of abandoned objects."""
+    lines = [f"{key} = {chance.choice(VALUES[key])}\n" for key in VALUES if chance.randrange(3) == 0]
     if chance.randrange(2):
-        lines += ["[abandoned]\n", *lines_by_chance(OF_ABANDONED, chance)]
+        lines += ["[abandoned]\n", *(f"{key} = {chance.choice(OF_ABANDONED[key])}\n" for key in OF_ABANDONED if chance.randrange(3) == 0)]
     return "".join(lines).encode()
 
 
@@ -113,13 +107,6 @@ def life(name, seed):
     return remade(dataclasses.replace(case, changes=[(at + 1, at + 1, wrong_line(made[at], chance))], verdict=b""))
 
 
-def with_fault(segments, chance):
-    """The segments as they are, mostly; or one is lost, repeated, exchanged with the next, or damaged."""
-    at = chance.randrange(len(segments))
-    damaged = [*segments[:at], with_other_byte(segments[at] or b"\n", chance), *segments[at + 1 :]]
-    return chance.choice([segments] * 5 + [others for _, others in ways(segments, chance)] + [damaged])
-
-
 def cut_life(name, seed):
     """The segments of a journal. Some of the first ones begin with no base."""
     chance = random.Random(seed)
@@ -130,7 +117,11 @@ def cut_life(name, seed):
     segments = cut_at(read, journal, positions)
     if chance.randrange(2):
         segments[0] = segments[0].partition(b"\n")[2]
-    return remade(Case(name, settings=settings, segments=[(text, b"") for text in with_fault(segments, chance)], verdict=b""))
+    # They stay as they are, mostly; or one is lost, repeated, exchanged with the next, or damaged.
+    at = chance.randrange(len(segments))
+    damaged = [*segments[:at], with_other_byte(segments[at] or b"\n", chance), *segments[at + 1 :]]
+    chosen = chance.choice([segments] * 5 + [others for _, others in ways(segments, chance)] + [damaged])
+    return remade(Case(name, settings=settings, segments=[(text, b"") for text in chosen], verdict=b""))
 
 
 def any_settings(name, seed):

@@ -1,6 +1,6 @@
 """A journal of many objects, cut into three segments."""
 
-from pool_model import Pool, words_of
+from pool_model import Pool, settings_of, words_of
 
 NO_LIMITS = "journalLimit = 4294967296\nmaxTotal = -1\nmaxIdle = -1\n"
 # No number of objects that is played is a multiple of it, so that it brings all of them into another order.
@@ -34,22 +34,19 @@ def asked_of_some(pool):
         taken.append(borrowed[2][1])
         yield borrowed
     yield from (ask(b"ready", id, b"good") for id in taken)
-    for id in taken[:5]:
+    yield from (ask(b"use", id) for id in (0, 10, pool.drawn))
+    for id in [*taken[:5], 0]:
         yield ask(b"return", id)
         yield ask(b"park", id, b"good")
     for id in taken[5:]:
         yield ask(b"invalidate", id)
         yield ask(b"destroyed", id)
-    yield from (ask(b"use", id) for id in (0, 10, pool.drawn))
-    yield ask(b"return", 0)
-    yield ask(b"park", 0, b"good")
     yield from map(ask, (b"evict", b"evictnext", b"evictnext", b"evictnext", b"add", b"clear", b"clearnext", b"close"))
 
 
-def segments_of(settings, objects):
-    """The journal of a pool with these settings, which limit no number: for each segment the text of its base and that of its
-    entries; and the pool at its end."""
-    pool, segments = Pool(settings), []
+def segments_of(objects):
+    """The journal of a pool without limits: for each segment the text of its base and that of its entries; and the pool at its end."""
+    pool, segments = Pool(settings_of(NO_LIMITS)), []
     for steps in made(objects), parked(objects), asked_of_some(pool):
         base, lines = b"".join(pool.base()), []
         for at, asked, answer in steps:

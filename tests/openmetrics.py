@@ -10,20 +10,11 @@ PACKAGE = "python3-prometheus-client"
 sys.path.append(NAMED[PACKAGE].sign.rpartition("/")[0])
 END = "# EOF\n"
 # The families of a pool, in their order, with their types and units.
-FAMILIES = [
-    ("zuphinka_idle_objects", "gauge", "objects"),
-    ("zuphinka_lent_objects", "gauge", "objects"),
-    ("zuphinka_waiting_borrows", "gauge", "borrows"),
-    ("zuphinka_created_objects", "counter", "objects"),
-    ("zuphinka_destroyed_objects", "counter", "objects"),
-    ("zuphinka_borrows", "counter", "borrows"),
-    ("zuphinka_timeouts", "counter", "timeouts"),
-    ("zuphinka_wait_seconds", "histogram", "seconds"),
-    ("zuphinka_loan_seconds", "histogram", "seconds"),
-]
+NAMES = {"gauge": "idle_objects lent_objects waiting_borrows", "counter": "created_objects destroyed_objects borrows timeouts"}
+NAMES["histogram"] = "wait_seconds loan_seconds"
+FAMILIES = [(f"zuphinka_{name}", kind, name.split("_")[-1]) for kind, names in NAMES.items() for name in names.split()]
 # The bounds of the buckets, in seconds.
-DECADES = ["0.0001 0.00025 0.0005", "0.001 0.0025 0.005", "0.01 0.025 0.05", "0.1 0.25 0.5", "1.0 2.5 5.0", "10.0 25.0 50.0", "100.0 +Inf"]
-BOUNDS = " ".join(DECADES).split()
+BOUNDS = "0.0001 0.00025 0.0005 0.001 0.0025 0.005 0.01 0.025 0.05 0.1 0.25 0.5 1.0 2.5 5.0 10.0 25.0 50.0 100.0 +Inf".split()
 # How the names of the samples of each type end, with the bounds of buckets.
 SAMPLES = {"gauge": [""], "counter": ["_total"], "histogram": [*(f"_bucket {bound}" for bound in BOUNDS), "_count", "_sum"]}
 WANTED = [name + ending for name, kind, _ in FAMILIES for ending in SAMPLES[kind]]
@@ -83,6 +74,7 @@ def fault_of(read, *words):
     return ""
 
 
-def texts_of(text):
-    """The texts of which one consists, each with its end."""
-    return [part + END for part in text.split(END)[:-1]]
+def fault_of_course(what, text, borrows):
+    """Why a text is refused that consists of several of one pool, in the order of time, or an empty text, also without the reader."""
+    texts = [part + END for part in text.split(END)[:-1]]
+    return is_read(what) and (f"only {len(texts)} texts" * (len(texts) <= 2) or fault_of(check_course, texts, borrows)) or ""

@@ -161,9 +161,3 @@ class Overview:
             name = "unknown" if caller is None else str(caller)
             lasted = ("before the first entry", "unknown") if since is None else (str(since), str(max(0, self.times[-1] - since)))
             yield (str(id), phase, name, *lasted)
-
-
-def quantile(durations, percent):
-    """The shortest duration that so many percent do not exceed."""
-    ranked = sorted(durations)
-    return ranked[max(0, -(-len(ranked) * percent // 100) - 1)] if ranked else 0

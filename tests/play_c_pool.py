@@ -2,24 +2,20 @@
 
     play_c_pool.py LIBRARY JUDGE
 
-LIBRARY is libzuphinka.a, as `rt lib` builds it, and JUDGE is the program `judge`. The C compiler that CC names, or cc, compiles
-the pool with the program, with warnings as errors. The header must compile by itself as C99, C11 and C++ too, with more warnings, and each of its codes
-is named after its enum.
+The C compiler that CC names, or cc, compiles the pool with the program, with warnings as errors. The header must compile by itself as C99, C11 and C++
+too, with more warnings.
 
-- Each test of the program must pass.
-- A pool whose `store` fails at each call in turn must store its whole journal in the end.
+- Each test of the program must pass. A pool whose `store` fails at each call in turn must store its whole journal in the end.
 - With SEEDS seeds, THREADS threads call a pool at random over callbacks that fail at random. No two threads have an object at once, a loan that has
   ended takes none, no more objects exist than maxTotal allows, and none is left; `judge` must judge the journal legal, whatever segments it has, and with
   the settings that some pools change meanwhile; it must have each loan that the threads counted; and all journals together must have each answer.
+  The same must hold while one allocation in REFUSE_OF fails (tests/refuse.c), and some must have failed in each of FEW_SEEDS runs.
 - A pool without a journal lends SOAKED times to THREADS threads, in memory that does not grow.
 - While THREADS threads borrow MEASURED times, each text of its metrics is in the format, and in the end their sums are right (tests/openmetrics.py).
 - bindings/c/examples/shared_life.c must write the segments of a legal journal, with SHARED_ROUNDS loans for each thread. A second run over the same
   folder must fail, and leave them as they are, also if the first one crashed and had the same process number.
-- The same must hold while one allocation in REFUSE_OF fails (tests/refuse.c), and some must have failed in each of FEW_SEEDS runs.
 - All tests and some seeds must run under valgrind without an error or a leak, and under ThreadSanitizer with MORE_THREADS threads without a
   race, if these are installed; what is missing is printed.
-
-Prints each run that differs, and in the end the line 'N passed, M failed'.
 """
 
 import collections
@@ -29,7 +25,7 @@ import re
 import sys
 
 import openmetrics
-from play_library import INCLUDE, TOP, VALGRIND, compiled, compiler, header_runs
+from play_library import TOP, VALGRIND, compiled, compiler, header_runs
 from playing import differing, has, preloaded, run, scratch, side_by_side, skip, tell
 
 from install import POOL
@@ -53,6 +49,10 @@ def built(library, folder, *flags):
     return compiled("play_c_pool", library, folder, ["-pthread", POOL, *flags], TOP / "tests")
 
 
+def journal_in(folder):
+    return b"".join(path.read_bytes() for path in sorted(folder.glob("segment-*")))
+
+
 def has_tsan(folder):
     """Returns whether the compiler builds programs with ThreadSanitizer that run."""
     program = folder / "empty"
@@ -70,13 +70,13 @@ class Runs:
     def run(self, *words):
         return run(*self.words, *words, env=self.environment)
 
-    def test(self, name):
-        """What differs in a test."""
-        return differing(f"{self.name}, test {name}", (b"", b"", 0), self.run("test", name))
+    def silent(self, *words):
+        """What differs in a test, or in a long life without a journal."""
+        return differing(f"{self.name}, {words}", (b"", b"", 0), self.run(*words))
 
     def judged(self, name, folder, steps):
         """The journal that was written to a folder, and what differs where it is judged."""
-        journal = b"".join(path.read_bytes() for path in sorted(folder.glob("segment-*")))
+        journal = journal_in(folder)
         self.answers |= set(ANSWER.findall(journal))
         if not steps:
             return journal, [f"{name}: segments of a journal that is dropped"] if journal else []
@@ -99,22 +99,14 @@ class Runs:
         """What differs in a run of threads that call at random."""
         name = f"{self.name}, seed {seed}"
         numbers, journal, found = self.told(name, "random", str(seed), str(threads), str(calls))
-        lent = collections.Counter(LENT.findall(journal))
-        wanted = {words.split()[1]: number for words, number in numbers.items() if words.startswith(b"caller ") and number}
-        is_counted = found or not journal or lent == wanted
-        return found + [f"{name}: threads counted the loans {wanted}, the journal has {dict(lent)}"] * (not is_counted)
-
-    def soak(self):
-        """What differs in a long life without a journal."""
-        return differing(f"{self.name}, {SOAKED} pairs", (b"", b"", 0), self.run("soak", str(SOAKED), str(THREADS)))
+        counted = {words.split()[1]: number for words, number in numbers.items() if words.startswith(b"caller ") and number}
+        lent = dict(collections.Counter(LENT.findall(journal))) if journal and not found else counted
+        return found + [f"{name}: threads counted the loans {counted}, the journal has {lent}"] * (lent != counted)
 
     def metrics(self):
         """What differs in the metrics that are read while threads borrow."""
         done = self.run("metrics", str(MEASURED), str(THREADS))
-        if not openmetrics.is_read("the metrics of the C pool"):
-            return differing(f"{self.name}, metrics", (done.stdout, b"", 0), done)
-        texts = openmetrics.texts_of(done.stdout.decode())
-        fault = openmetrics.fault_of(openmetrics.check_course, texts, MEASURED) or f"{len(texts)} texts" * (len(texts) <= 2)
+        fault = openmetrics.fault_of_course("the metrics of the C pool", done.stdout.decode(), MEASURED)
         return differing(f"{self.name}, metrics", (done.stdout, b"", 0), done) + [f"{self.name}, metrics: {fault}"] * bool(fault)
 
     def shared(self, program):
@@ -124,10 +116,9 @@ class Runs:
             settings.write_text("journalLimit = 1000\n")
             name = "shared_life"
             found = differing(name, (b"", b"", 0), run(program, settings, folder, str(THREADS), str(SHARED_ROUNDS)))
-            journal = b"".join(path.read_bytes() for path in sorted(folder.glob("segment-*")))
-            wanted = [SHARED_ROUNDS] * THREADS
+            journal = journal_in(folder)
             lent = list(collections.Counter(LENT.findall(journal)).values())
-            found += [f"{name}: the journal has {lent} loans for its threads"] * (lent != wanted)
+            found += [f"{name}: the journal has {lent} loans for its threads"] * (lent != [SHARED_ROUNDS] * THREADS)
             # A process of its number crashed while its last segment had two names.
             crashed = ["sh", "-c", 'ln "$0" "$3/unfinished-$$" && exec "$@"', max(folder.glob("segment-*"))]
             again = run(*crashed, program, settings, folder, "1", str(SHARED_ROUNDS))
@@ -135,20 +126,6 @@ class Runs:
             is_refused = again.returncode == 1 and left == journal
             found += [f"{name}: a second run replaces segments, or leaves more files"] * (not is_refused)
             return found + self.judged(name, folder, journal.count(b" = "))[1]
-
-    def sinks(self):
-        """What differs where `store` fails at no call, and at each in turn."""
-        found, called = self.sink(0)
-        return [found, *(self.sink(at)[0] for at in range(1, called + 1)), [f"{self.name}: few calls of store"] * (called <= 3)]
-
-
-def header_differing(folder):
-    """What differs where the header is compiled by itself, and in the names of its codes."""
-    for name, words, wanted in header_runs(folder, "zuphinka_pool.h", "return zuphinka_pool_caller() == 0;"):
-        yield differing(name, wanted, run(*words))
-    for kind, body in re.findall(r"enum (zuphinka_\w+) \{(.*?)\};", (INCLUDE / "zuphinka_pool.h").read_text(), flags=re.DOTALL):
-        names = re.findall(r"^  (\w+) =", body, flags=re.MULTILINE)
-        yield [f"{name} isn't named after {kind}" for name in names if not name.startswith(kind.upper() + "_")]
 
 
 def tools(folder):
@@ -175,21 +152,25 @@ def all_calls(plain, library, folder, watches):
     names = plain.run("list").stdout.decode().split()
     refuse = preloaded("refuse", folder)
     few = range(1, FEW_SEEDS + 1)
-    calls = [(plain.test, name) for name in names] + [(plain.random, seed, THREADS, CALLS) for seed in range(1, SEEDS + 1)]
+    calls = [(plain.silent, "test", name) for name in names] + [(plain.random, seed, THREADS, CALLS) for seed in range(1, SEEDS + 1)]
     for name, flags, before, threads in watches:
         runs = Runs(name, [*before, built(library, folder / name, *flags)], plain.judge)
-        calls += [(runs.test, name) for name in names] + [(runs.random, seed, threads, FEW_CALLS) for seed in few]
+        calls += [(runs.silent, "test", name) for name in names] + [(runs.random, seed, threads, FEW_CALLS) for seed in few]
     return calls + [(refused, plain, refuse, folder, seed) for seed in few]
 
 
 def found(library, judge, folder):
     """What differs in each run."""
-    yield from header_differing(folder)
+    for name, words, wanted in header_runs(folder, "zuphinka_pool.h", "return zuphinka_pool_caller() == 0;"):
+        yield differing(name, wanted, run(*words))
     plain = Runs("plain", [built(library, folder)], str(pathlib.Path(judge).resolve()))
     calls = all_calls(plain, library, folder, list(tools(folder)))
     yield from side_by_side(lambda call: call[0](*call[1:]), calls)
     shared = compiled("shared_life", library, folder, ["-pthread", POOL])
-    yield from [plain.soak(), plain.metrics(), plain.shared(shared), *plain.sinks()]
+    # A `store` fails at no call, and at each in turn.
+    whole, called = plain.sink(0)
+    yield from [whole, *(plain.sink(at)[0] for at in range(1, called + 1)), ["few calls of store"] * (called <= 3)]
+    yield from [plain.silent("soak", str(SOAKED), str(THREADS)), plain.metrics(), plain.shared(shared)]
     missing = ANSWERS - plain.answers
     yield [f"no journal has {sorted(missing)}"] * bool(missing)
 

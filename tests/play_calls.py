@@ -8,8 +8,7 @@ report what does not fit. Some pools are closed. Each event is chosen by the ans
 the same: the action, what a call over several objects has come to, the calls to wake, and the counts.
 
 At the end all that is held is returned, only calls that were woken go on, and none may be left. All seeds together see each end of each kind of call.
-
-Prints what differs, and in the end the line 'N passed, M failed'. With --seed it plays that seed alone.
+With --seed it plays that seed alone.
 """
 
 import argparse
@@ -54,33 +53,23 @@ MOST_LIKELY = 0.4
 
 def text_of(settings):
     """The lines of the settings as TOML."""
-    abandoned = settings.get("abandoned")
-    lines = [f"{key} = {str(value).lower()}" for key, value in settings.items() if key != "abandoned"]
-    if abandoned is not None:
-        lines += ["[abandoned]", *(f"{key} = {str(value).lower()}" for key, value in abandoned.items())]
-    return lines
+    flat = {key: value for key, value in settings.items() if key != "abandoned"}
+    of_abandoned = ["[abandoned]", *text_of(settings["abandoned"])] if "abandoned" in settings else []
+    return [f"{key} = {str(value).lower()}" for key, value in flat.items()] + of_abandoned
 
 
 def random_settings(dice):
     most = dice.choice((1, 1, 1, 2, 2, 3, 4, -1))
     settings = {
-        "maxTotal": most,
-        "maxIdle": dice.choice((8, 8, 8, -1, 0, 1, 2)),
-        "minIdle": dice.choice((0, 1, 2, 3)),
-        "lifo": dice.random() < 0.5,
-        "blockWhenExhausted": dice.random() < 0.9,
-        "maxWaitMillis": dice.choice((-1, -1, 20, 200, 0)),
+        "maxTotal": most, "maxIdle": dice.choice((8, 8, 8, -1, 0, 1, 2)), "minIdle": dice.choice((0, 1, 2, 3)),
+        "lifo": dice.random() < 0.5, "blockWhenExhausted": dice.random() < 0.9, "maxWaitMillis": dice.choice((-1, -1, 20, 200, 0)),
         **{key: dice.random() < 0.5 for key in ("testOnBorrow", "testOnCreate", "testOnReturn", "testWhileIdle")},
-        "numTestsPerEvictionRun": dice.choice((3, 1, 10, -1, -2)),
-        "minEvictableIdleMillis": dice.choice((-1, 20, 200, 1_800_000)),
+        "numTestsPerEvictionRun": dice.choice((3, 1, 10, -1, -2)), "minEvictableIdleMillis": dice.choice((-1, 20, 200, 1_800_000)),
         "softMinEvictableIdleMillis": dice.choice((-1, 10, 100)),
     }
     if dice.random() < 0.4 or most < 0:
-        settings["abandoned"] = {
-            "removeAbandonedOnBorrow": dice.random() < 0.7,
-            "removeAbandonedOnMaintenance": dice.random() < 0.8,
-            "removeAbandonedTimeoutMillis": dice.choice((40, 400)) if most > 0 else 20_000,
-        }
+        flags = {"removeAbandonedOnBorrow": dice.random() < 0.7, "removeAbandonedOnMaintenance": dice.random() < 0.8}
+        settings["abandoned"] = flags | {"removeAbandonedTimeoutMillis": dice.choice((40, 400)) if most > 0 else 20_000}
     if most > 0 and dice.random() < 0.5:
         # As much as is needed if all objects but one are lent and one is readied, up to a little more; sometimes less.
         least = 7 + 4 * (most - 1)
@@ -265,9 +254,8 @@ class Player:
             return "no-room" if chance < 0.5 else "given-up"
         if chance < 0.5:
             self.cut()
-        if chance > 0.9 and self.calls[slot].fits("given-up"):
-            return "given-up"
-        return "room-made" if chance < 0.65 else "no-room"
+        is_given_up = chance > 0.9 and self.calls[slot].fits("given-up")
+        return "given-up" if is_given_up else "room-made" if chance < 0.65 else "no-room"
 
     def misreport(self):
         """A report that does not fit, to a call that goes on or is over."""

@@ -2,26 +2,23 @@
 
     play_commands.py POOL JOURNAL_PICTURE
 
-Both are programs. The last line is 'N passed, M failed'.
-
 A block is what a page indents by four spaces, and the man page's section of examples. Each must be of commands, which are run one after the
-other with the repository's examples at hand, or as one where they have a loop; the lines of a journal, which must be legal with the default
+other with the repository's examples at hand, or as one if they have a loop; the lines of a journal, which must be legal with the default
 settings, cut into segments or not; the form of a line; or the line of `rt version`. Each logic of a kit that a page names must be that of this one.
-The command ./check is not run, since it runs this, nor is tools/build.py, also not by make, since it has built the programs: there must be such a
-crate or binding.
-Java's commands are run by play_java.py. What ./try does with the program without its proofs is done here by the program. Blocks between fences are not
-run: check_pages.py holds them against the sources, and looks at names. Cargo's commands are skipped if no cargo runs.
+Not run are ./check, since it runs this, tools/build.py, also by make, since it has built the programs, and Java's commands, which play_java.py runs.
+What ./try does with the program without its proofs is done here by the program. check_pages.py holds blocks between fences against the sources.
 
 The examples that docs/settings.md names are played, and must have the journal lines that it shows. The pictures in docs/pictures must be those of
 the journals: each under the name of its settings, and those of leak.journal and overview.journal there.
 """
 
 import lzma
+import os
 import pathlib
 import re
 import sys
 
-from playing import NO_CARGO, TOP, has, play_checks, run, scratch, skip
+from playing import NO_CARGO, TOP, has, play_checks, run, scratch, skip, write_files
 
 import sources
 from contest import runs_cargo
@@ -33,7 +30,9 @@ COMMAND = re.compile(
     r"(\./pool|\./try|\./check|pool|crates/\S+|\(cd|mkdir|printf|python3 tools/\S+|make|cc|(LD_LIBRARY_PATH=\S+ )?\./first_loan|\./plain_life|"
     r"\./long_life|\./shared_life|cargo|java) "
 )
-ENTRY = re.compile(r"\d+ \d+ .* = ")
+# What Cargo's commands build, apart from what tests of the Rust crate use meanwhile.
+BUILT = TOP / "bindings/rust/target/commands"
+ENTRY = re.compile(r"^\d+ \d+ .* = ")
 BASE = re.compile(r"pool-journal 2 |\d+ (readying|adding|lent|returning|idle|testing|destroying) ")
 FORM = "<caller> <at> <input>"
 # The line of a kit, which may have any name, and the checksum of its logic, also in a sentence.
@@ -67,29 +66,21 @@ class Place:
     def fault_of_command(self, line):
         """Why a command is not as the page says, if it isn't."""
         words = line.partition(" #")[0].strip()
-        if words in OWN:
-            return None
         if words.startswith("python3 tools/build.py "):
             return None if any((TOP / kind / words.split()[2]).is_dir() for kind in ("crates", "bindings")) else "no such crate"
-        if words.startswith("java "):
-            return None
         if words.startswith("cargo") and not self.runs_cargo:
-            skip(words, NO_CARGO)
+            return skip(words, NO_CARGO)
+        if words in OWN or words.startswith("java "):
             return None
-        if words.startswith("./try ") and not (TOP / "try").is_file():
-            return "no such script"
         words = re.sub(r"^make ", "make --old-file=library ", re.sub(r"^(\./try|pool) ", "./pool ", words))
-        done = run("bash", "-c", words, cwd=self.folder, text=True)
+        done = run("bash", "-c", words, cwd=self.folder, env=os.environ | {"CARGO_TARGET_DIR": str(BUILT)}, text=True)
         return f"status {done.returncode}: {done.stderr.strip()}" if done.returncode else None
 
     def fault_of_journal(self, segments):
         """Why segments are no legal journal, if they aren't."""
-        (self.folder / "defaults.toml").write_text("")
-        names = [f"segment{number}" for number in range(len(segments))]
-        for name, lines in zip(names, segments):
-            (self.folder / name).write_text("".join(line + "\n" for line in lines))
-        done = run("./pool", "check", "defaults.toml", *names, cwd=self.folder, text=True)
-        count = sum(bool(ENTRY.match(line)) for lines in segments for line in lines)
+        files = write_files(self.folder, {name: text.encode() for name, text in enumerate(segments)})
+        done = run("./pool", "check", "/dev/null", *files, cwd=self.folder, text=True)
+        count = len(re.findall(ENTRY.pattern, "".join(segments), flags=re.MULTILINE))
         return None if done.stdout == f"legal {count}\n" else done.stdout + done.stderr
 
     def faults_of_page(self, page):
@@ -105,28 +96,19 @@ class Place:
         for logic in LOGIC.findall(page.read_text()):
             yield logic, None if (sources.kit() or "").endswith(logic) else "another kit than this machine's"
         for segments in journals(shown):
-            yield segments[0][0], self.fault_of_journal(segments)
+            yield segments[0].partition("\n")[0], self.fault_of_journal(segments)
 
 
 def journals(lines):
     """The journals whose lines these are, each as its segments: one begins with the first line, and where a segment says that it does."""
-    found = []
-    for line in lines:
-        if not found or line.startswith("pool-journal 2 0 "):
-            found.append([[]])
-        elif line.startswith("pool-journal 2 "):
-            found[-1].append([])
-        found[-1][-1].append(line)
-    return found
-
-
-def is_drawn(picture, name, journal):
-    """Whether the picture of this name that stands in docs/pictures is that of the journal."""
-    return run(picture, "-", input=journal).stdout == (PICTURES / f"{name}.svg").read_bytes()
+    for journal in re.split(r"^(?=pool-journal 2 0 )", "".join(f"{line}\n" for line in lines), flags=re.MULTILINE):
+        if journal:
+            yield [segment for segment in re.split(r"^(?=pool-journal 2 )", journal, flags=re.MULTILINE) if segment]
 
 
 def examples(pool, picture):
-    named = set()
+    named, drawn = set(), {"leak": (PICTURES / "leak.journal").read_bytes()}
+    drawn["overview"] = lzma.decompress((PICTURES / "overview.journal.xz").read_bytes())
     rows = re.findall(r"^\| (`examples/.*)$", (TOP / "docs/settings.md").read_text(), flags=re.MULTILINE)
     for settings, script, *others in (re.findall(r"`([^`]+)`", row) for row in rows):
         named |= {settings, script}
@@ -135,9 +117,10 @@ def examples(pool, picture):
         yield f"{settings} on {script}", (b"", 0), (done.stderr, done.returncode)
         yield f"the lines of {settings} on {script}", (True, []), (lines != [], [line for line in lines if line not in done.stdout.splitlines()])
         if (PICTURES / f"{name}.svg").exists():
-            yield f"docs/pictures/{name}.svg is drawn of {settings}", True, is_drawn(picture, name, done.stdout)
-    for name, journal in ("leak", (PICTURES / "leak.journal").read_bytes()), ("overview", lzma.decompress((PICTURES / "overview.journal.xz").read_bytes())):
-        yield f"docs/pictures/{name}.svg is drawn of its journal", True, is_drawn(picture, name, journal)
+            drawn[name] = done.stdout
+    for name, journal in drawn.items():
+        is_drawn = run(picture, "-", input=journal).stdout == (PICTURES / f"{name}.svg").read_bytes()
+        yield f"docs/pictures/{name}.svg is drawn of its journal", True, is_drawn
     files = {f"examples/{path.name}" for path in (TOP / "examples").iterdir()}
     yield "examples that docs/settings.md doesn't name", set(), files - named
 

@@ -3,36 +3,30 @@
     play_commons_pool.py LIBRARY JUDGE
     play_commons_pool.py --fetch
 
-LIBRARY is libzuphinka.a, and JUDGE is the program `judge`. COMMONS_POOL2_SOURCE names the folder with the source of Commons Pool 2 of the
-version that is installed. Else it is that of Debian's archive, which --fetch stores in the folder out. The tests run in several virtual
-machines, over the GenericObjectPool of bindings/java/commons-pool2, which comes before the library's and passes each call on. A test that does not
-end as the page says runs again, alone, up to twice.
+COMMONS_POOL2_SOURCE names the folder with the source of Commons Pool 2 of the version that is installed. Else it is that of Debian's archive, which
+--fetch stores in the folder out. The tests run in several virtual machines, over the GenericObjectPool of bindings/java/commons-pool2, which comes
+before the library's and passes each call on. A test that does not end as the page says runs again, alone, up to twice.
 
 What fails is a test that fails without a row on the page, that passes although its row says that it differs, or that does not exist; a class of which
 another number of tests passes; and a journal that is not legal, of a pool that a test closed. If a tool, a library or the source is missing, all of
 it is skipped, with the reason.
-
-Prints what fails, and in the end the line 'N passed, M failed'.
 """
 
 import collections
 import contextlib
-import hashlib
 import itertools
 import os
 import pathlib
 import re
 import subprocess
 import sys
-import tarfile
 import time
-import typing
 import urllib.request
 
 from check_pages import backquoted, tables
-from play_java import legal_in, play_with_java, run_java
-from play_java_random import commons_pool_version
-from playing import TOP, scratch, side_by_side
+from commons_random import commons_pool_version
+from play_java import play_with_java, run_java
+from playing import TOP, has, scratch, side_by_side, stored_journal
 
 import java
 from install import heap_of_kit
@@ -45,9 +39,10 @@ ARCHIVE = f"http://deb.debian.org/debian/pool/main/c/commons-pool2/commons-pool2
 CHECKSUM = "16deaefe5bd9ec8f242b1836459f672a786382d1154971fc2488c65eb62ae36f"
 FETCHED = TOP / "out" / pathlib.PurePosixPath(ARCHIVE).name
 SOURCE = os.environ.get("COMMONS_POOL2_SOURCE")
-# The jars that the tests need besides, and the packages that have them.
+# The packages that the tests need besides, and the jars that these have.
+PACKAGES = "junit5", "libcglib-java"
 JUNIT = ("junit-jupiter-api", "junit-jupiter-engine", "junit-platform-commons", "junit-platform-engine", "junit-platform-launcher")
-JARS = dict.fromkeys((*JUNIT, "apiguardian-api", "opentest4j", "hamcrest"), "junit5") | dict.fromkeys(("cglib", "asm"), "libcglib-java")
+JARS = [java.DEBIAN_JAR.with_name(f"{name}.jar") for name in (*JUNIT, "apiguardian-api", "opentest4j", "hamcrest", "cglib", "asm")]
 # To how many virtual machines the tests are dealt out. A processor that has ended with one takes the next.
 MACHINES = 12
 # What makes a short run of the virtual machine take less of the processors.
@@ -60,22 +55,20 @@ Result = collections.namedtuple("Result", "end millis thrown", defaults=["not ru
 REPEATS, MOST_REPEATED = 2, 8
 
 
-class Page(typing.NamedTuple):
+class Page:
     """What the page says: of each class, which of its tests alone are in scope, if not all are, and how many pass and fail; which tests fail, each
     with the line of the source; and which are out of scope. A test is named CLASS#METHOD, and a class without its package."""
 
-    only: dict[str, list[str]]
-    numbers: dict[str, tuple[int, int]]
-    failing: dict[str, str]
-    outside: set[str]
-
-    def listed(self):
-        """The tests that it names."""
-        return {*self.failing, *self.outside, *(f"{name}#{method}" for name, methods in self.only.items() for method in methods)}
-
-    def classes(self):
-        """The classes that it names."""
-        return sorted({*self.only, *(test.partition("#")[0] for test in self.listed())})
+    def __init__(self):
+        rows = list(tables(PAGE))
+        classes = {backquoted(row["Class"])[0]: row for row in rows if "Pass" in row}
+        tests = [(f"{row['Class']}#{method}", row.get("Line")) for row in rows if "Test" in row for method in backquoted(row["Test"])]
+        self.only = {name: backquoted(row["Tests in scope"]) for name, row in classes.items()}
+        self.numbers = {name: (int(row["Pass"]), int(row["Fail"])) for name, row in classes.items()}
+        self.failing, self.outside = {test: line for test, line in tests if line}, {test for test, line in tests if not line}
+        # The tests and the classes that it names.
+        self.listed = {*self.failing, *self.outside, *(f"{name}#{method}" for name, methods in self.only.items() for method in methods)}
+        self.classes = sorted({*self.only, *(test.partition("#")[0] for test in self.listed)})
 
     def is_in_scope(self, test):
         name, _, method = test.partition("#")
@@ -86,49 +79,22 @@ class Page(typing.NamedTuple):
         return f"failed:{self.failing[test]}" if test in self.failing else "passed"
 
 
-def read_page():
-    """What the page says."""
-    rows = list(tables(PAGE))
-    classes = {backquoted(row["Class"])[0]: row for row in rows if "Pass" in row}
-    tests = [(f"{row['Class']}#{method}", row.get("Line")) for row in rows if "Test" in row for method in backquoted(row["Test"])]
-    return Page(
-        {name: backquoted(row["Tests in scope"]) for name, row in classes.items()},
-        {name: (int(row["Pass"]), int(row["Fail"])) for name, row in classes.items()},
-        {test: line for test, line in tests if line},
-        {test for test, line in tests if not line},
-    )
-
-
-def jars():
-    """The jars that the tests need besides Commons Pool 2, which has the version of the tests."""
+def need_tests():
+    """Commons Pool 2 has the version of the tests, and these are there."""
     if commons_pool_version() != VERSION:
         raise java.Missing(f"{java.commons_pool()} is not version {VERSION} of Commons Pool 2, whose tests these are")
     if not SOURCE and not FETCHED.is_file():
         raise java.Missing(f"no {FETCHED}: tests/play_commons_pool.py --fetch downloads it; COMMONS_POOL2_SOURCE names a folder that has the source")
-    for name, package in JARS.items():
-        if not (java.DEBIAN_JAR.parent / f"{name}.jar").is_file():
-            raise java.Missing(f"no {name}.jar: Debian's package {package} has it")
-    return [java.DEBIAN_JAR.parent / f"{name}.jar" for name in JARS]
 
 
 def fetch():
     """Stores the archive, unless another source is named."""
-    if SOURCE:
-        return
-    with urllib.request.urlopen(ARCHIVE, timeout=30) as reply:
-        packed = reply.read()
-    checksum = hashlib.sha256(packed).hexdigest()
-    if checksum != CHECKSUM:
-        sys.exit(f"{ARCHIVE}: wanted the checksum {CHECKSUM}, got {checksum}")
-    FETCHED.parent.mkdir(exist_ok=True)
-    FETCHED.write_bytes(packed)
-
-
-def unpacked(to):
-    """Unpacks the tests of the archive, and returns the folder of the source."""
-    with tarfile.open(FETCHED) as members:
-        members.extractall(to, [member for member in members if "/src/test/" in member.name])
-    return next(to.glob("*/src/test")).parent.parent
+    if not SOURCE:
+        FETCHED.parent.mkdir(exist_ok=True)
+        part = FETCHED.with_suffix(".part")
+        urllib.request.urlretrieve(ARCHIVE, part)
+        java.run("sha256sum", "--check", input=f"{CHECKSUM}  {part}\n")
+        part.rename(FETCHED)
 
 
 class Tests:
@@ -136,7 +102,7 @@ class Tests:
 
     def __init__(self, names, source, jar, folder):
         self.folder, self.sources = folder, source / "src/test/java"
-        others = [java.drop_in(jar.parent), jar, java.commons_pool(), *jars()]
+        others = [java.drop_in(jar.parent), jar, java.commons_pool(), *JARS]
         own, tests = folder / "own", folder / "tests"
         java.compile_classes(sorted(OWN.rglob("*.java")), own, *others)
         words = [*(f"-J{option}" for option in SHORT_RUN), "-nowarn", "-implicit:class", "-cp", os.pathsep.join(map(str, (own, *others)))]
@@ -146,8 +112,7 @@ class Tests:
 
     def file(self, name):
         """The file of a class."""
-        found = next(self.sources.rglob(f"{name}.java"), None)
-        return found or sys.exit(f"{PAGE.name}: {name}: no such class\n0 passed, 1 failed")
+        return next(self.sources.rglob(f"{name}.java"), None) or sys.exit(f"{PAGE.name}: {name}: no such class\n0 passed, 1 failed")
 
     def qualified(self, test):
         """A class or a test, with the package of the class."""
@@ -166,16 +131,12 @@ class Tests:
 
     def results(self, names):
         """What came of tests that run in one machine."""
-        found = {}
-        for line in self.run("run", names):
-            name, end, millis, thrown = line.split(" ", 3)
-            found[name] = Result(end, int(millis), thrown)
+        found = {name: Result(end, int(millis), thrown) for name, end, millis, thrown in (line.split(" ", 3) for line in self.run("run", names))}
         return {name: found.get(name, Result()) for name in names}
 
     def all_results(self, names):
         """What came of tests that run in several machines."""
-        found = side_by_side(self.results, (names[at::MACHINES] for at in range(MACHINES)))
-        return {name: result for results in found for name, result in results.items()}
+        return dict(itertools.chain(*(found.items() for found in side_by_side(self.results, (names[at::MACHINES] for at in range(MACHINES))))))
 
 
 def repeated(tests, page, results):
@@ -192,7 +153,7 @@ def repeated(tests, page, results):
 
 def checks_of_page(page, found):
     """What is wanted of the page, and what it says: that it has each test that was found, and no other."""
-    yield "tests on the page that do not exist", [], sorted(page.listed() - set(found))
+    yield "tests on the page that do not exist", [], sorted(page.listed - set(found))
     for name, numbers in page.numbers.items():
         in_scope = {test for test in found if test.startswith(f"{name}#") and page.is_in_scope(test)}
         yield f"{name}: how many pass and fail, by the page", (len(in_scope - {*page.failing}), len(in_scope & {*page.failing})), numbers
@@ -200,18 +161,10 @@ def checks_of_page(page, found):
     yield "the numbers in its text", True, f"{passing} of {passing + failing} pass" in PAGE.read_text()
 
 
-def checks_of_results(page, results):
-    """What is wanted of each test, and what came of it."""
-    for test, result in sorted(results.items()):
-        wanted = page.wanted(test)
-        got = wanted if result.end == wanted else f"{result.end}, after {result.millis} ms: {result.thrown}"
-        yield test, wanted, got
-
-
 def checks_of_journals(judge, folder):
     """What is wanted of the journals, and what they are."""
     journals = sorted({path.parent for path in folder.glob("journals-*/*/*/segment-*")})
-    found = list(side_by_side(lambda journal: legal_in(journal, judge), journals))
+    found = side_by_side(lambda journal: stored_journal(judge, journal, 0), journals)
     faults = [f"{journal.name}: {got}" for journal, (wanted, got) in zip(journals, found) if got != wanted]
     print(f"{len(journals) - len(faults)} journals are legal")
     yield "journals that are not legal", [], faults
@@ -219,19 +172,23 @@ def checks_of_journals(judge, folder):
 
 
 def checks(library, judge):
-    page = read_page()
+    page = Page()
     with scratch() as folder:
-        source = pathlib.Path(SOURCE) if SOURCE else unpacked(folder)
+        source = pathlib.Path(SOURCE or folder)
+        if not SOURCE:
+            java.run("tar", "--extract", "--file", FETCHED, "--directory", folder, "--strip-components=1", "--wildcards", "*/src/test/*")
         jar = java.build(library, heap_of_kit(), folder / "out")
-        tests = Tests(page.classes(), source, jar, folder)
-        found = tests.run("list", page.classes())
+        tests = Tests(page.classes, source, jar, folder)
+        found = tests.run("list", page.classes)
         yield from checks_of_page(page, found)
         began = time.monotonic()
         results, runs = repeated(tests, page, tests.all_results([test for test in found if page.is_in_scope(test)]))
         print(f"{len(results)} tests in {time.monotonic() - began:.0f} s")
         for test, number in runs.items():
             print(f"{test} ran again, {number} times, and {results[test].end}")
-        yield from checks_of_results(page, results)
+        for test, result in sorted(results.items()):
+            wanted = page.wanted(test)
+            yield test, wanted, wanted if result.end == wanted else f"{result.end}, after {result.millis} ms: {result.thrown}"
         yield from checks_of_journals(judge, folder)
 
 
@@ -240,7 +197,8 @@ def main(*words):
         return fetch()
     if SOURCE and not (pathlib.Path(SOURCE) / "src/test/java").is_dir():
         sys.exit(f"{SOURCE}/src/test/java: no such folder\n0 passed, 1 failed")
-    return play_with_java("the tests of Commons Pool 2", checks(*map(pathlib.Path, words)), jars)
+    what = "the tests of Commons Pool 2"
+    return play_with_java(what, checks(*map(pathlib.Path, words)) if has(what, *PACKAGES) else (), need_tests)
 
 
 if __name__ == "__main__":

@@ -2,20 +2,18 @@
 
     play_drop_in.py LIBRARY JUDGE
 
-LIBRARY is libzuphinka.a, and JUDGE is the program `judge`. The class must have all public and protected members of the library's, and
-a few others (tests/drop_in/Surface.java). tests/drop_in/DropIn.java changes its settings at any time, also while threads call it.
-tests/drop_in/LaterSettings.java prints what calls do after each change, and must print the same over both classes. So must
-tests/drop_in/DataSources.java, which makes calls of DBCP2's BasicDataSource over H2. The journals must be legal, by the settings beside their segments.
-What needs a JDK or a jar that is missing is skipped, with the reason. The library's own tests run over the class in play_commons_pool.py.
-
-Prints what fails, and in the end the line 'N passed, M failed'.
+The class must have all public and protected members of the library's, and a few others (tests/drop_in/Surface.java). tests/drop_in/DropIn.java changes
+its settings at any time, also while threads call it. tests/drop_in/LaterSettings.java prints what calls do after each change, and must print the same
+over both classes. So must tests/drop_in/DataSources.java, which makes calls of DBCP2's BasicDataSource over H2. The journals must be legal, by the
+settings beside their segments. What needs a JDK or a jar that is missing is skipped, with the reason. The library's own tests run over the class in
+play_commons_pool.py.
 """
 
 import pathlib
 import re
 import sys
 
-from play_java import legal_in, play_with_java, program, run_java
+from play_java import journals_below, play_with_java, program, run_java
 from playing import TOP, has, scratch
 
 import java
@@ -34,15 +32,10 @@ LEAST_MEMBERS = 100
 POOL = re.compile(r"[A-Za-z0-9.]+:[A-Za-z0-9.,:=$_-]+|of_[A-Za-z0-9.$]+")
 
 
-def run(path, *words, options=()):
-    """Runs a test program over a class path."""
-    return run_java(path, *words, options=[java.QUICK, *options])
-
-
 def surface(classes, jars):
     """What is wanted of the members of the class, and what they are."""
     library = java.commons_pool()
-    done = run([classes], "Surface", CLASS, library, ":".join(map(str, [*jars, library])))
+    done = run_java([classes], "Surface", CLASS, library, ":".join(map(str, [*jars, library])))
     *others, last = done.stdout.splitlines() or [""]
     yield "members that the library's class alone has", [], [member for member in others if member.startswith("-")]
     yield "members that this class alone has", MORE, sorted(re.search(r"(\w+)\[", member)[1] for member in others if member.startswith("+"))
@@ -52,19 +45,16 @@ def surface(classes, jars):
 
 def legal_journals(name, judge, folder):
     """What is wanted of the journals in a folder, and what they are."""
-    journals = sorted({segment.parent for segment in folder.glob("*/*/segment-*")})
-    yield f"{name}: there are journals", True, bool(journals)
-    names = [journal.parent.name for journal in journals if not POOL.fullmatch(journal.parent.name)]
-    yield f"{name}: folders that have no pool's name", [], names
-    for journal in journals:
-        yield f"{name}: {journal.parent.name}/{journal.name}", *legal_in(journal, judge)
+    names = {segment.parent.parent.name for segment in folder.glob("*/*/segment-*")}
+    yield f"{name}: folders that have no pool's name", [], [name for name in names if not POOL.fullmatch(name)]
+    yield from journals_below(folder, judge)
 
 
 def same_as_library(name, least_lines, path, drop_in, judge, folder):
     """What is wanted of a program over the class, which is what it prints over the library's; and what it does."""
-    wanted = run(path, name)
+    wanted = run_java(path, name)
     yield f"{name} over the library", (0, True), (wanted.returncode, len(wanted.stdout.splitlines()) > least_lines or wanted.stdout)
-    done = run([drop_in, *path], name, options=[f"-Dzuphinka.journals={folder}"])
+    done = run_java([drop_in, *path], name, options=[f"-Dzuphinka.journals={folder}"])
     yield name, (wanted.stdout, 0), (done.stdout, done.returncode)
     yield from legal_journals(name, judge, folder)
 
@@ -79,7 +69,7 @@ def checks(library, judge):
         java.compile_classes(sources, classes, *jars, java.commons_pool(), *others)
         yield from surface(classes, jars)
         path = [classes, java.commons_pool()]
-        yield from program("drop-in", run([jars[0], *path], "DropIn", jars[0].name, options=[f"-Dzuphinka.journals={folder / 'journals'}"]))
+        yield from program("drop-in", run_java([jars[0], *path], "DropIn", jars[0].name, options=[f"-Dzuphinka.journals={folder / 'journals'}"]))
         yield from legal_journals("drop-in", judge, folder / "journals")
         yield from same_as_library("LaterSettings", 100, path, jars[0], judge, folder / "of-later-settings")
         if has_jars:

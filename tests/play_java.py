@@ -2,23 +2,12 @@
 
     play_java.py LIBRARY POOL JOURNAL_PICTURE JUDGE
 
-LIBRARY is libzuphinka.a, and the others are programs. tests/java/Calls.java makes each call of a pool, with what the factory throws.
-tests/java/Policies.java has eviction policies of the user's own, in this pool and in Commons Pool. tests/java/Errors.java lets everything that a pool
-calls end in an error, and calls pools on a full stack, also where the virtual machine keeps more of each stack for itself. tests/java/Waits.java lets
-threads wait, also on a full heap, and counts who overtakes. tests/java/Measures.java reads metrics, whose texts must be in the format.
-tests/java/Stress.java makes random calls in eight threads over a factory that fails at random. tests/java/Refusals.java refuses the native library
-each of its allocations in turn. tests/java/Folders.java has pools below one folder, and folders that are removed. tests/java/Flushes.java stores
-journals from time to time, and tests/java/Exits.java ends while an object is lent: its journal must have all entries, also if it is killed once they
-are there. tests/java/Overdue.java has loans that last too long, and tests/java/Lifetimes.java objects that are too old. tests/java/Reconfigures.java
-changes the settings of pools in use, also beside threads, and tests/java/RefusedChanges.java while allocations fail: JUDGE must find each segment
-legal by the settings beside it, and each must begin at the base that the one before it reached. tests/java/Loaders.java has pools in two class
-loaders, where temporary folders are unfit. A pool runs in a module too. The journals that they write must be legal. A stored file must be synced
-before it has its name, and its folder afterwards. The jar must have the version of all products and load nothing but the C library, and the codes of
-io.github.zuphinka.Core must be those of bindings/c/include/zuphinka.h. Each public and protected item must have documentation in which javac finds
-nothing wrong. The examples are run by the commands of bindings/java/README.md; the journal of that over DBCP2 must be drawn. What needs a JDK or a
-jar that is missing is skipped, with the reason.
-
-Prints what fails, and in the end the line 'N passed, M failed'.
+Each program in tests/java says what it tests. The journals that they write must be legal: by the settings beside them, if these change, and with all
+entries, if a process ends or is killed while an object is lent. Metrics must be in the format. Allocations of the native library are refused in turn,
+also on a full heap and a full stack. It is found in each place that the page names, in two class loaders, and in a module. A stored file must be synced
+before it has its name, and its folder afterwards. The jar must have the version of all products and load nothing but the C library. Each public and
+protected item must have documentation in which javac finds nothing wrong. The examples are run by the commands of bindings/java/README.md; the journal
+of that over DBCP2 must be drawn. What needs a JDK or a jar that is missing is skipped, with the reason.
 """
 
 import itertools
@@ -35,7 +24,7 @@ import zipfile
 import openmetrics
 import playing
 from check_picture import differences
-from playing import LONGEST, TOP, has, play_checks, preloaded, scratch, skip, skip_all, start_of, stored_journal
+from playing import LONGEST, TOP, has, play_checks, preloaded, scratch, skip_all, start_of, stored_journal
 
 import java
 from install import heap_of_kit, version
@@ -97,35 +86,6 @@ def program(name, done):
     yield from ((f"{name}: {number}", True, True) for number in range(int(counts[-1][0]) if counts else 0))
 
 
-def codes():
-    """What is wanted of the codes that Java has, and what they are. It has all reports, actions and ends, and some kinds and statuses."""
-    header = re.sub(r"/\*.*?\*/", "", (TOP / "bindings/c/include/zuphinka.h").read_text(), flags=re.DOTALL)
-    source = (java.JAVA / "src/io/github/zuphinka/Core.java").read_text()
-    found = dict(re.findall(r"^    static final int ((?:KIND|REPORT|ACTION|END|STATUS)_\w+) = (-?\d+);$", source, flags=re.MULTILINE))
-    for name, kind, code in re.findall(r"ZUPHINKA_((KIND|REPORT|ACTION|END|STATUS)_\w+) = (\d+)", header):
-        if kind not in ("KIND", "STATUS") or name in found:
-            yield f"the code {name}", "-" * (kind == "STATUS") + code, found.pop(name, None)
-    yield "codes that the header has not", {}, found
-
-
-def legal(pool, settings, *journals):
-    """What is wanted of a check of journals, and what came of it."""
-    done = playing.run(pool, "check", settings, *journals, text=True)
-    return "legal", done.stdout.partition(" ")[0] or done.stderr
-
-
-def legal_in(folder, judge):
-    """What is wanted of the journal in a folder, and what came of it."""
-    done = playing.run(judge, folder, text=True)
-    return "legal", done.stdout.partition(" ")[0] or done.stderr
-
-
-def falls(*segments):
-    """The pairs of entries that follow each other in a journal and whose times fall."""
-    times = [int(time) for segment in segments for time in TIME.findall(segment.read_text())]
-    return [pair for pair in itertools.pairwise(times) if pair[0] > pair[1]] if times else "no entries"
-
-
 def found(jar, classes, native, folder):
     """What is wanted of runs in two class loaders each, and what came of it: the native library is found in each place that the page names, and its
     copy in a folder that takes it. One of tests/refuse_java.c holds no memory once its class loader is collected."""
@@ -161,19 +121,17 @@ def played(name, jar, classes, pool, place, **options):
     place.mkdir()
     yield from program(place.name, run(jar, classes, name, place, **options))
     for settings in sorted(place.glob("*.toml")):
-        yield f"{place.name}: {settings.stem}", *legal(pool, settings, settings.with_suffix(""))
+        done = playing.run(pool, "check", settings, settings.with_suffix(""), text=True)
+        yield f"{place.name}: {settings.stem}", "legal", done.stdout.partition(" ")[0] or done.stderr
 
 
 def measures(place):
     """What is wanted of the metrics, and what they are."""
-    if not openmetrics.is_read("the metrics in Java"):
-        return
-    course = openmetrics.texts_of((place / "course").read_text())
-    yield "measures: texts in their course", True, len(course) > 2 or len(course)
-    yield "measures: their course", "", openmetrics.fault_of(openmetrics.check_course, course, MEASURED)
-    text = (place / "pools").read_text()
-    yield "measures: two pools", "", openmetrics.fault_of(openmetrics.pools_of, text)
-    yield "measures: their names", NAMES, list(openmetrics.pools_of(text))
+    yield "measures: their course", "", openmetrics.fault_of_course("the metrics in Java", (place / "course").read_text(), MEASURED)
+    if openmetrics.is_read("the metrics of two pools in Java"):
+        text = (place / "pools").read_text()
+        yield "measures: two pools", "", openmetrics.fault_of(openmetrics.pools_of, text)
+        yield "measures: their names", NAMES, list(openmetrics.pools_of(text))
 
 
 def refusing(library, folder):
@@ -184,23 +142,23 @@ def refusing(library, folder):
     return native
 
 
-def refusals(jar, classes, native, pool, folder):
+def refusals(jar, classes, native, judge, folder):
     """What is wanted of lives in which allocations fail, and what came of it: those of the native library each in turn, and those of a full heap."""
     journals = folder / "refusals"
     yield from program("refusals", run(jar, classes, "Refusals", journals, options=[f"-Dzuphinka.library={native}", java.QUICK]))
     for place in sorted(journals.iterdir()):
-        yield f"refusals: {place.name}", *legal(pool, place / "settings.toml", *sorted(place.glob("segment-*")))
+        yield f"refusals: {place.name}", *stored_journal(judge, place, 0)
     yield from program("a full heap", run(jar, classes, "Refusals", "heap", options=["-Xmx24m", "-XX:+UseSerialGC", java.QUICK]))
 
 
 def size_until(file, entries):
     """How many bytes a file has until so many entries."""
-    lines = file.read_bytes().splitlines(keepends=True)
-    last = [number for number, line in enumerate(lines) if b" = " in line and file.name.startswith("segment-")][entries - 1 : entries]
-    return sum(map(len, lines[: last[0] + 1] if last else lines))
+    text = file.read_bytes()
+    ends = [line.end() for line in re.finditer(rb".* = .*\n", text)] if file.name.startswith("segment-") else []
+    return ends[entries - 1] if len(ends) >= entries else len(text)
 
 
-def calls(jar, classes, pool, folder):
+def calls(jar, classes, pool, judge, folder):
     """What is wanted of the calls, of their journals, and of the order in which files of these are synced and renamed; and what came of it."""
     place, noted, wanted = folder / "calls", folder / "noted", []
     variables = {"NOTED": str(noted), "LD_PRELOAD": str(preloaded("note_syncs", folder))}
@@ -212,7 +170,7 @@ def calls(jar, classes, pool, folder):
         for file in journal / "start.toml", journal / "settings.toml", segments[0], journal / "callers.txt", *segments[1:]:
             unfinished, size, begun = journal / ".unfinished", file.stat().st_size, size_until(file, CUT)
             wanted += [f"sync {unfinished} {begun}", f"rename {unfinished} {file}", f"sync {journal} 0", *[f"sync {file} {size}"] * (size > begun)]
-        yield f"calls: {journal.parent.name}", *legal(pool, journal / "settings.toml", *segments)
+        yield f"calls: {journal.parent.name}", *stored_journal(judge, journal)
     yield "calls: syncs and renames", wanted, [line for line in noted.read_text().splitlines() if str(place) in line]
 
 
@@ -221,37 +179,29 @@ def journals_below(place, judge):
     starts = sorted(path.parent for path in place.rglob("settings.toml"))
     yield f"{place.name}: there are journals", True, bool(starts)
     for start in starts:
-        yield f"{place.name}: {start.parent.name}/{start.name}", *legal_in(start, judge)
+        yield f"{place.name}: {start.parent.name}/{start.name}", *stored_journal(judge, start, 0)
 
 
-def exits(jar, classes, pool, place):
+def exits(jar, classes, judge, place):
     """What is wanted of the journals of processes that end while an object is lent, with a maintenance thread and without one; and what they are."""
-    for end in EXITS:
-        for more in [], ["maintained"]:
-            name = " ".join(["exits:", end, *more])
-            command = [java.jdk() / "bin/java", java.QUICK, "-cp", f"{classes}:{jar}:{java.commons_pool()}", "Exits", place / name, end, *more]
-            with subprocess.Popen(list(map(str, command)), stdout=subprocess.PIPE, text=True) as program:
-                start, steps = pathlib.Path(program.stdout.readline().strip()), int(program.stdout.readline())
-                until = time.monotonic() + LONGEST
-                while end == "killed" and entries_in(start) < steps and time.monotonic() < until:
-                    time.sleep(0.1)
-                if end == "killed":
-                    program.kill()
-                yield f"{name}: the status", -9 if end == "killed" else 0, program.wait(LONGEST)
-            yield f"{name}: stored entries", (steps, True), (entries_in(start), steps > 5)
-            yield f"{name}: its journal", *stored_journal(pool, place / name)
+    for end, more in itertools.product(EXITS, ([], ["maintained"])):
+        name = " ".join(["exits:", end, *more])
+        command = [java.jdk() / "bin/java", java.QUICK, "-cp", f"{classes}:{jar}:{java.commons_pool()}", "Exits", place / name, end, *more]
+        with subprocess.Popen(list(map(str, command)), stdout=subprocess.PIPE, text=True) as program:
+            start, steps = pathlib.Path(program.stdout.readline().strip()), int(program.stdout.readline())
+            until = time.monotonic() + LONGEST
+            while end == "killed" and entries_in(start) < steps and time.monotonic() < until:
+                time.sleep(0.1)
+            if end == "killed":
+                program.kill()
+            yield f"{name}: the status", -9 if end == "killed" else 0, program.wait(LONGEST)
+        yield f"{name}: stored entries", (steps, True), (entries_in(start), steps > 5)
+        yield f"{name}: its journal", *stored_journal(judge, place / name)
 
 
 def entries_in(start):
     """How many entries are stored in a folder."""
     return sum(len(TIME.findall(segment.read_text())) for segment in start.glob("segment-*"))
-
-
-def reconfigures(judge, place):
-    """What is wanted of the journals of pools whose settings change, and what they are."""
-    for journal in map(start_of, sorted(place.iterdir())):
-        yield f"reconfigures: {journal.name}: files of settings", True, len([*journal.glob("settings-*.toml")]) > 0
-        yield f"reconfigures: {journal.name}", *legal_in(journal, judge)
 
 
 def portable(jar):
@@ -267,39 +217,35 @@ def portable(jar):
 
 def documentation(folder):
     """What is wanted of the documentation of both jars' classes, and what is wrong with it by javac."""
-    sources = sorted(path for place in (java.JAVA, java.DROP_IN) for path in (place / "src").rglob("*.java"))
-    words = [f"-J{java.QUICK}", "--release", java.RELEASE, "-Xdoclint:all/protected", "-Xmaxwarns", "1000", "-d", folder]
-    words += ["-cp", java.commons_pool(), *sources]
-    done = playing.run(java.jdk() / "bin/javac", *words, text=True)
+    words = [f"-J{java.QUICK}", "--release", java.RELEASE, "-Xdoclint:all/protected", "-Xmaxwarns", "1000", "-d", folder, "-cp", java.commons_pool()]
+    sources = (path for place in (java.JAVA, java.DROP_IN) for path in (place / "src").rglob("*.java"))
+    done = playing.run(java.jdk() / "bin/javac", *words, *sources, text=True)
     yield "the documentation", ("", 0), (done.stderr, done.returncode)
 
 
-def example(name, report, pool, folder):
+def example(name, report, judge, folder):
     """What is wanted of an example, and what came of it. All pages must run it by one command, whose last word is the folder for the journal."""
     pages = (page.read_text() for page in (TOP / "README.md", java.JAVA / "README.md"))
     commands = sorted({command for page in pages for command in re.findall(rf"^    (java .*/{name}\.java )", page, flags=re.MULTILINE)})
     yield f"{name}: its commands", 1, len(commands)
     done = playing.run("bash", "-ec", f"{commands[0]}{shlex.quote(str(folder))}", cwd=TOP, text=True)
     yield f"{name}: what it prints", True, re.fullmatch(report, done.stdout) is not None or done.stdout + done.stderr
-    yield f"{name}: its journal", *stored_journal(pool, folder)
+    yield f"{name}: its journal", *stored_journal(judge, folder)
 
 
-def examples(pool, picture, folder):
+def examples(judge, picture, folder):
     """What is wanted of the examples, and what came of it. Those over jars that are missing are skipped."""
-    if not java.DEBIAN_JAR.is_file():
-        skip("the examples in Java", f"no {java.DEBIAN_JAR}: Debian's package libcommons-pool2-java has it")
-        return
-    yield from example("FirstLoan", r"a session\n", pool, folder / "first")
-    yield from example("Servers", r"180 requests were answered over \d+ connections\n", pool, folder / "servers")
-    if has("the example Bank", *EXAMPLE_JARS.values()):
-        yield from example("Bank", BANK, pool, folder / "bank")
+    if has("the examples in Java", "libcommons-pool2-java"):
+        yield from example("FirstLoan", r"a session\n", judge, folder / "first")
+        yield from example("Servers", r"180 requests were answered over \d+ connections\n", judge, folder / "servers")
+    if has("the example Bank", "libcommons-pool2-java", *EXAMPLE_JARS.values()):
+        yield from example("Bank", BANK, judge, folder / "bank")
         # Beside them a picture would have the names of their callers.
         (folder / "drawn").mkdir()
         yield "Bank: its picture", [], differences(picture, *(shutil.copy(path, folder / "drawn") for path in sorted(folder.glob("bank/*/segment-*"))))
 
 
 def checks(library, pool, picture, judge):
-    yield from codes()
     jar = java.build(library, heap_of_kit())
     with zipfile.ZipFile(jar) as packed:
         yield "the version", True, f"Implementation-Version: {version()}" in packed.read("META-INF/MANIFEST.MF").decode().splitlines()
@@ -308,7 +254,7 @@ def checks(library, pool, picture, judge):
         classes = folder / "classes"
         sources = sorted((TOP / "tests/java").rglob("*.java"))
         java.compile_classes(sources, classes, jar, java.commons_pool())
-        yield from calls(jar, classes, pool, folder)
+        yield from calls(jar, classes, pool, judge, folder)
         for name in OVER_FOLDERS:
             yield from played(name, jar, classes, pool, folder / name.lower())
         for name in PROGRAMS:
@@ -316,26 +262,28 @@ def checks(library, pool, picture, judge):
         yield from program("errors where more stack is kept", run(jar, classes, "Errors", options=["-XX:StackShadowPages=50"]))
         yield from program("waits on a full heap", run(jar, classes, "Waits", "heap", options=HEAP))
         yield from measures(folder / "measures")
-        yield from reconfigures(judge, folder / "reconfigures")
+        without = [path.name for path in map(start_of, (folder / "reconfigures").iterdir()) if path.is_dir() and not [*path.glob("settings-*.toml")]]
+        yield "reconfigures: journals without files of settings", [], without
         native = refusing(library, folder)
-        yield from refusals(jar, classes, native, pool, folder)
+        yield from refusals(jar, classes, native, judge, folder)
         options = [f"-Dzuphinka.library={native}", java.QUICK]
         yield from program("refused changes", run(jar, classes, "RefusedChanges", options=options))
         yield from played("Folders", jar, classes, pool, folder / "folders", options=[*options, "-XX:MaxDirectMemorySize=2m"])
-        for name in "folders", "flushes", "lifetimes":
+        for name in "folders", "flushes", "lifetimes", "reconfigures":
             yield from journals_below(folder / name, judge)
-        yield from exits(jar, classes, pool, folder / "exits")
+        yield from exits(jar, classes, judge, folder / "exits")
         yield from found(jar, classes, native, folder)
         options = ["-p", f"{jar}:{java.commons_pool()}", "--add-modules", java.MODULE]
         yield from program("a module", run(classes, classes, "Stress", 1, 50, folder / "module", options=options))
         yield from documentation(folder / "documented")
-        yield from examples(pool, picture, folder)
+        yield from examples(judge, picture, folder)
         for seed in SEEDS:
             journal = folder / f"stress-{seed}"
             words = ["abandoned"] * (seed % 2) + ["bare"] * (seed // 2 % 2)
             yield from program(f"stress {seed}", run(jar, classes, "Stress", seed, MILLIS, journal, *words))
-            yield f"stress {seed}: its journal", *stored_journal(pool, journal)
-            yield f"stress {seed}: times that fall", [], falls(*sorted(start_of(journal).glob("segment-*")))
+            yield f"stress {seed}: its journal", *stored_journal(judge, journal)
+            times = [int(time) for segment in sorted(start_of(journal).glob("segment-*")) for time in TIME.findall(segment.read_text())]
+            yield f"stress {seed}: times that fall", (True, []), (bool(times), [pair for pair in itertools.pairwise(times) if pair[0] > pair[1]])
 
 
 if __name__ == "__main__":

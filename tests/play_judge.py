@@ -8,18 +8,13 @@ with the lines that were written of the one before it.
 
 - Of each case with segments and a verdict all segments are judged, in an order by chance. Joined, they must be legal exactly where the verdict
   says so; where it does, what is written of each must be the lines of the next one's base. `JUDGE --join` must say the same, and
-  `JUDGE FOLDER` the verdict, with the segment that has the error.
-- Three segments are damaged: in each place a byte is changed, dropped or doubled. Joined, they must be legal exactly where those of
-  tests/pool_model.py are, whose verdict `JUDGE FOLDER` must give. tests/play_segments.py has `pool check` over the same.
+  `JUDGE FOLDER` the verdict, with the segment that has the error. So it is of three segments with each byte damaged, by tests/pool_model.py.
 - New settings that leave no room for outstanding entries, or are none, have their lines; so have folders that lack something. In a folder with a folder
-  for each start each is judged.
-- `JUDGE --held` must list the objects that are held at the end, by the names and with the times of day that the folder has.
+  for each start each is judged. `JUDGE --held` must list the objects that are held at the end, by the names and with the times of day there.
 - Other arguments, requests for help or the version, and files that cannot be opened, read or taken, must have the line, which names the file,
   and the status that crates/judge/specs/Messages.antt says.
 - Segments that another one follows are judged once for each allocation, which is refused then, and so are folders, joins and lists: nothing is written, the
   status is 3 and the line tells of memory, as no other fault; or all is written, where it can do without what was refused.
-
-Prints what differs, and in the end the line 'N passed, M failed'.
 """
 
 import itertools
@@ -29,8 +24,8 @@ import sys
 
 from argument_rules import version
 from case_files import unpacked
-from play_segments import EMPTY, THREE, damaged_segments, play_trials, segmented
-from playing import differing, ended, preloaded, refusals, run, scratch, write_files
+from play_segments import EMPTY, THREE, damaged_segments, played, segmented
+from playing import differing, ended, preloaded, refusals, run, scratch, tell, write_files
 from pool_model import settings_of, verdict_of_segments
 
 
@@ -45,10 +40,8 @@ def base_lines(segment):
 
 def are_joined(segments, reached):
     """Whether segments, of which so much was written, or nothing, are one legal journal."""
-    if None in reached or base_lines(segments[0]) not in (b"", EMPTY):
-        return False
-    before = [EMPTY, *reached]
-    return all(base_lines(segment) == lines or (base_lines(segment) == b"" and lines == EMPTY) for segment, lines in zip(segments, before))
+    bases = [base_lines(segment) for segment in segments]
+    return None not in reached and all(base in (lines, b"" if lines == EMPTY else lines) for base, lines in zip(bases, [EMPTY, *reached]))
 
 
 def reached_by(judge, settings, paths, chance):
@@ -60,19 +53,6 @@ def reached_by(judge, settings, paths, chance):
             raise ValueError(f"{paths[index]}: status {status}, wrote {written}, told {told}")
         reached[index] = written if status == 0 else None
     return reached
-
-
-def is_legal(case):
-    """Whether the segments of a case are one legal journal."""
-    return case.verdict.startswith(b"legal ")
-
-
-def texts_of(case):
-    return [text for text, _ in case.segments]
-
-
-def of_case(judge, case, chance):
-    return of_segments(judge, case.name, case.settings, texts_of(case), case.verdict, chance)
 
 
 def of_segments(judge, name, settings, segments, verdict, chance):
@@ -104,90 +84,81 @@ def of_folder(judge, name, room, paths, segments, verdict):
     return differing(f"{name}, in a folder", (verdict + b"\n", told, 1), run(judge, room))
 
 
-# Later settings of a segment, before which an object is being made: what is written, and what is told of the file with the error.
-LATER = {
-    b"maxTotal = 0\n": (b"legal 2\n", "", 0),
-    b"journalLimit = 1\n": (b"", "judge: {}/segment-1: base: no room\n", 3),
-    b"maxTotal = many\n": (b"", "judge: {}/settings-1.toml: settings: not TOML\n", 3),
-    b"maxTotl = 8\n": (b"", "judge: {}/settings-1.toml: settings: unknown key maxTotl\n", 3),
-}
+# What a folder has, uses of it, and what is wanted of each. The files change between the uses.
 
 
-def of_later(judge):
+def of_later(room):
+    """Later settings of a segment, before which an object is being made."""
     first = EMPTY + b"0 1 borrow 1 = make 0\n"
     second = b"pool-journal 2 1 1 open none 0 0 0 1\n0 readying 0 0 0 0 new\n0 2 ready 0 good = lent\n"
-    found = []
-    with scratch() as room:
-        write_files(room, {"settings.toml": b"", "segment-0": first, "segment-1": second})
-        for text, (output, told, status) in LATER.items():
-            write_files(room, {"settings-1.toml": text})
-            found += differing(f"{text} from a segment on", (output, told.format(room).encode(), status), run(judge, room))
-        write_files(room, {"settings.toml": b"maxTotal = 0\n", "settings-0.toml": b"", "settings-1.toml": b"", "settings-9.toml": b"maxTotal = 0\n"})
-        found += differing("settings from the first segment on", (b"legal 2\n", b"", 0), run(judge, "--", room))
-        (room / "settings-1.toml").unlink()
-        (room / "settings-1.toml").symlink_to("settings-1.toml")
-        found += differing("settings that lead to themselves", (b"", b"judge: cannot open %s/settings-1.toml\n" % bytes(room), 3), run(judge, room))
-    return found
+    write_files(room, {"settings.toml": b"", "segment-0": first, "segment-1": second})
+    for text, wanted in (
+        (b"maxTotal = 0\n", (b"legal 2\n", b"", 0)), (b"journalLimit = 1\n", line_of(room / "segment-1", "base: no room")),
+        (b"maxTotal = many\n", line_of(room / "settings-1.toml", "settings: not TOML")),
+        (b"maxTotl = 8\n", line_of(room / "settings-1.toml", "settings: unknown key maxTotl")),
+    ):
+        write_files(room, {"settings-1.toml": text})
+        yield f"{text} from a segment on", wanted, [room]
+    write_files(room, {"settings.toml": b"maxTotal = 0\n", "settings-0.toml": b"", "settings-1.toml": b"", "settings-9.toml": b"maxTotal = 0\n"})
+    yield "settings from the first segment on", (b"legal 2\n", b"", 0), ["--", room]
+    (room / "settings-1.toml").unlink()
+    (room / "settings-1.toml").symlink_to("settings-1.toml")
+    yield "settings that lead to themselves", (b"", b"judge: cannot open %s/settings-1.toml\n" % bytes(room), 3), [room]
 
 
-def of_starts(judge):
-    """What differs in folders of starts, and in those that lack something."""
-    stray = THREE[0].replace(b"check", b"gone")
-    with scratch() as room:
-        found = differing("no folder", (b"", b"judge: cannot open %s/none\n" % bytes(room), 3), run(judge, room / "none"))
-        found += differing("a folder without a journal", line_of(room, "no settings.toml, and no folder with one"), run(judge, room))
-        found += differing("a folder without segments to join", line_of(room, "no segments"), run(judge, "--join", room, room))
-        for name in "1-first", "2-begun", "3-whole", "notes":
-            (room / name).mkdir()
-        (room / "2-begun/start.toml").write_text('zero = "2026-11-30T03:54:57.120Z"\n')
-        write_files(room / "3-whole", {"settings.toml": b"", **{f"segment-{at}": text for at, text in zip((0, 4, 7), THREE)}})
-        begun, whole = b"2-begun: legal 0\n", b"3-whole: legal 10\n"
-        write_files(room / "1-first", {"settings.toml": b"", "segment-000": THREE[0]})
-        found += differing("three starts", (b"1-first: legal 4\n" + begun + whole, b"", 0), run(judge, room))
-        write_files(room / "1-first", {"segment-000": stray})
-        told = b"judge: %s/1-first/segment-000: illegal 2 check\n" % bytes(room)
-        found += differing("a start that is not legal", (b"1-first: illegal 2 check\n" + begun + whole, told, 1), run(judge, room))
-        write_files(room / "1-first", {"segment-000": b"x\n"})
-        told = b"judge: %s/1-first/segment-000: line 1: not a line\n" % bytes(room)
-        found += differing("a start with an error", (begun + whole, told, 3), run(judge, room))
-        (room / "1-first/settings.toml").unlink()
-        found += differing("a start without settings", line_of(room / "1-first", "no settings.toml"), run(judge, room / "1-first"))
-        write_files(room / "3-whole", {"segment-7.old": b""})
-        for words in [room / "3-whole"], ["--join", room / "3-whole", room]:
-            found += differing(f"{words}", line_of(room / "3-whole/segment-7.old", "no position in the name"), run(judge, *words))
-        (room / "3-whole/segment-7.old").unlink()
-        (room / "3-whole/segment-0").unlink()
-        told = b"judge: %s/3-whole/segment-4: illegal base 0\n" % bytes(room)
-        return found + differing("the first segment is lost", (b"illegal base 0\n", told, 1), run(judge, room / "3-whole"))
+def of_starts(room):
+    """Folders of starts, and those that lack something."""
+    yield "no folder", (b"", b"judge: cannot open %s/none\n" % bytes(room), 3), [room / "none"]
+    yield "a folder without a journal", line_of(room, "no settings.toml, and no folder with one"), [room]
+    yield "a folder without segments to join", line_of(room, "no segments"), ["--join", room, room]
+    for name in "1-first", "2-begun", "3-whole", "notes":
+        (room / name).mkdir()
+    first, whole = room / "1-first", room / "3-whole"
+    write_files(room, {"2-begun/start.toml": b'zero = "2026-11-30T03:54:57.120Z"\n', "1-first/settings.toml": b""})
+    write_files(whole, {"settings.toml": b"", **{f"segment-{at}": text for at, text in zip((0, 4, 7), THREE)}})
+    others = b"2-begun: legal 0\n3-whole: legal 10\n"
+    for text, output, told, status in (
+        (THREE[0], b"1-first: legal 4\n", None, 0), (THREE[0].replace(b"check", b"gone"), b"1-first: illegal 2 check\n", "illegal 2 check", 1),
+        (b"x\n", b"", "line 1: not a line", 3),
+    ):
+        write_files(first, {"segment-000": text})
+        yield f"three starts, of one {told}", (output + others, line_of(first / "segment-000", told)[1] if told else b"", status), [room]
+    (first / "settings.toml").unlink()
+    yield "a start without settings", line_of(first, "no settings.toml"), [first]
+    write_files(whole, {"segment-7.old": b""})
+    for words in [whole], ["--join", whole, room]:
+        yield f"{words}", line_of(whole / "segment-7.old", "no position in the name"), words
+    (whole / "segment-7.old").unlink()
+    (whole / "segment-0").unlink()
+    yield "the first segment is lost", (b"illegal base 0\n", line_of(whole / "segment-4", "illegal base 0")[1], 1), [whole]
 
 
-def line_of(path, told):
+def line_of(path, told, status=3):
     """What is wanted of a run that names a path in its line."""
-    return b"", f"judge: {path}: {told}\n".encode(), 3
+    return b"", f"judge: {path}: {told}\n".replace("two\nlines", "two\\nlines").encode(), status
 
 
-def of_held(judge):
-    """What differs in the lists of objects that are held."""
-    with scratch() as room:
-        write_files(room, {"settings.toml": b"", **{f"segment-{at}": text for at, text in zip((0, 4), THREE)}})
-        rows = b"object 0: made ready by caller 0 since 21 ms\nobject 1: made by caller 1 since 22 ms\n"
-        found = differing("held, without names", (rows, b"", 0), run(judge, "--held", room))
-        zero = b'started = "2026-11-30T03:54:57.123Z"\nzero = "2026-11-30T03:54:57.120Z"\nprocess = 4711\n'
-        write_files(room, {"start.toml": zero, "callers.txt": b"0 main\n1 worker-1\n0 worker-\xc2\x85\n1\nx y\n1 cut off"})
-        rows = b"object 0: made ready by worker-\\u0085 since 2026-11-30T03:54:57.141Z\n"
-        rows += b"object 1: made by worker-1 since 2026-11-30T03:54:57.142Z\n"
-        found += differing("held, with names and times of day", (rows, b"", 0), run(judge, "--held", room))
-        later = room / "starts/2"
-        later.mkdir(parents=True)
-        (room / "starts/3").mkdir()
-        write_files(later, {"segment-0": THREE[0].partition(b"0 15")[0]})
-        found += differing("held at the last start", (b"object 0: held by caller 0 since 11 ms\n", b"", 0), run(judge, "--held", room / "starts"))
-        write_files(later, {"segment-0": THREE[1].partition(b"0 20")[0].replace(b"idle", b"lent")})
-        found += differing("held since before the journal", (b"object 0: held by an unknown caller since 11 ms\n", b"", 0), run(judge, "--held", later))
-        write_files(room, {"start.toml": b"zero = 1\n"})
-        found += differing("no time of day", line_of(room, "no time of day in start.toml"), run(judge, "--held", room))
-        write_files(later, {"segment-0": THREE[0] + b"x\n"})
-        return found + differing("no journal", line_of(later / "segment-0", "line 6: not a line"), run(judge, "--held", later))
+def of_held(room):
+    """Lists of objects that are held."""
+    write_files(room, {"settings.toml": b"", **{f"segment-{at}": text for at, text in zip((0, 4), THREE)}})
+    rows = b"object 0: made ready by caller 0 since 21 ms\nobject 1: made by caller 1 since 22 ms\n"
+    yield "held, without names", (rows, b"", 0), ["--held", room]
+    zero = b'started = "2026-11-30T03:54:57.123Z"\nzero = "2026-11-30T03:54:57.120Z"\nprocess = 4711\n'
+    write_files(room, {"start.toml": zero, "callers.txt": b"0 main\n1 worker-1\n0 worker-\xc2\x85\n1\nx y\n1 cut off"})
+    rows = b"object 0: made ready by worker-\\u0085 since 2026-11-30T03:54:57.141Z\n"
+    rows += b"object 1: made by worker-1 since 2026-11-30T03:54:57.142Z\n"
+    yield "held, with names and times of day", (rows, b"", 0), ["--held", room]
+    later = room / "starts/2"
+    later.mkdir(parents=True)
+    (room / "starts/3").mkdir()
+    write_files(later, {"segment-0": THREE[0].partition(b"0 15")[0]})
+    yield "held at the last start", (b"object 0: held by caller 0 since 11 ms\n", b"", 0), ["--held", room / "starts"]
+    write_files(later, {"segment-0": THREE[1].partition(b"0 20")[0].replace(b"idle", b"lent")})
+    yield "held since before the journal", (b"object 0: held by an unknown caller since 11 ms\n", b"", 0), ["--held", later]
+    write_files(room, {"start.toml": b"zero = 1\n"})
+    yield "no time of day", line_of(room, "no time of day in start.toml"), ["--held", room]
+    write_files(later, {"segment-0": THREE[0] + b"x\n"})
+    yield "no journal", line_of(later / "segment-0", "line 6: not a line"), ["--held", later]
 
 
 # Files by their names: what `judge FILE segment` prints of those that give no settings, ..
@@ -212,29 +183,23 @@ USES = ["FOLDER", "--held FOLDER", "SETTINGS SEGMENT", "--join FOLDER REACHED", 
 WRONG = b"judge: wrong arguments, try judge --help\n"
 
 
-def line(path, told):
-    """The line that names a file and what is wrong with it."""
-    return f"judge: {path}: {told}\n".replace("two\nlines", "two\\nlines").encode()
-
-
 def uses(room, settings):
-    """Uses that end otherwise than with a base, each with its line and its status."""
+    """Uses that end otherwise than with a base, each with what is wanted."""
     write_files(room, {name: text for name, (text, *_) in {**SETTINGS, **SEGMENTS}.items()} | {"small.toml": b"journalLimit = 2\n"})
     lost, good = f"{room}/none", f"{room}/gone"
-    yield from (([f"{room}/{name}", good], line(f"{room}/{name}", told), 3) for name, (_, told) in SETTINGS.items())
-    yield from (([settings, f"{room}/{name}"], line(f"{room}/{name}", told), status) for name, (_, told, status) in SEGMENTS.items())
-    wrong = [], [settings, good, good], ["--version", "--help", "-h"], ["--help", good], ["-x", room], ["--join", room], ["--held"], ["--held", room, room]
-    yield from ((words, WRONG, 2) for words in wrong)
+    yield from (([f"{room}/{name}", good], line_of(f"{room}/{name}", told)) for name, (_, told) in SETTINGS.items())
+    yield from (([settings, f"{room}/{name}"], line_of(f"{room}/{name}", told, status)) for name, (_, told, status) in SEGMENTS.items())
+    wrong = [], [settings, good, good], ["--version", "--help", "-h"], ["--help", good], ["-x", room], ["--join", room], ["--held"]
+    yield from ((words, (b"", WRONG, 2)) for words in (*wrong, ["--held", room, room]))
     for words, opened in ([lost, good], lost), ([settings, lost], lost), (["help"], "help"), (["--", "--help"], "--help"), ([settings], settings):
-        yield words, f"judge: cannot open {opened}\n".encode(), 3
-    yield [room, good], line(room, "read failed"), 3
-    yield [settings, room], line(room, "read failed"), 3
-    yield [f"{room}/small.toml", good], line(good, "line 2: journal full"), 3
+        yield words, (b"", f"judge: cannot open {opened}\n".encode(), 3)
+    yield from (([first, second], line_of(room, "read failed")) for first, second in ((room, good), (settings, room)))
+    yield [f"{room}/small.toml", good], line_of(good, "line 2: journal full")
 
 
 def of_uses(judge, settings):
     with scratch() as room:
-        wrong = [f"{words}: {found}" for words, told, status in uses(room, settings) if (found := ended(run(judge, *words))) != (b"", told, status)]
+        wrong = [told for words, wanted in uses(room, settings) for told in differing(f"{words}", wanted, run(judge, *words))]
     for word in "--version", "-V":
         wrong += differing(word, (version().replace(b"pool", b"judge"), b"", 0), run(judge, word))
     for word in "--help", "-h":
@@ -252,24 +217,27 @@ def of_pipe(judge, settings):
     return [told for text in texts for told in differing("a segment from a pipe", wanted, run(judge, settings, "/dev/stdin", input=text))]
 
 
-def of_damaged(judge):
-    """What was printed of a segment, and is not one base; or is none, as where the segment is not legal."""
-    found = []
+def of_damaged(room):
+    """What was printed of a segment, and is not one base; or is none, as of one that is not legal."""
+    (room / "reached").mkdir()
+    paths = write_files(room, {f"segment-{at}": text for at, text in zip((0, 4, 7), THREE)})
+    bases = [base_lines(text) for text in THREE[1:]] + [EMPTY]
+    no_base = line_of(paths[0], "what it reached is not one base")
+    from_first, from_second = (b"not legal from %s on\n" % bytes(path) for path in paths[:2])
+    for text, wanted in (
+        (bases[0][:-1], no_base), (bases[0] + b"\n", no_base), (b"", (from_first, b"", 1)), (EMPTY, (from_second, b"", 1)),
+        (bases[0], (b"one legal journal\n", b"", 0)),
+    ):
+        write_files(room / "reached", dict(zip((path.name for path in paths), [text, *bases[1:]])))
+        yield f"joined after {text}", wanted, ["--join", room, room / "reached"]
+    write_files(room, {"segment-0": b"pool-journal 2 0\n"})
+    yield "a base of one line", line_of(paths[0], "not a base"), ["--join", room, room / "reached"]
+
+
+def of_uses_of(judge, uses):
+    """What differs in uses of a folder."""
     with scratch() as room:
-        (room / "reached").mkdir()
-        paths = write_files(room, {f"segment-{at}": text for at, text in zip((0, 4, 7), THREE)})
-        bases = [base_lines(text) for text in THREE[1:]] + [EMPTY]
-        for text, wanted in (
-            (bases[0][:-1], line_of(paths[0], "what it reached is not one base")),
-            (bases[0] + b"\n", line_of(paths[0], "what it reached is not one base")),
-            (b"", (b"not legal from %s on\n" % bytes(paths[0]), b"", 1)),
-            (EMPTY, (b"not legal from %s on\n" % bytes(paths[1]), b"", 1)),
-            (bases[0], (b"one legal journal\n", b"", 0)),
-        ):
-            write_files(room / "reached", dict(zip((path.name for path in paths), [text, *bases[1:]])))
-            found += differing(f"joined after {text}", wanted, run(judge, "--join", room, room / "reached"))
-        write_files(room, {"segment-0": b"pool-journal 2 0\n"})
-        return found + differing("a base of one line", line_of(paths[0], "not a base"), run(judge, "--join", room, room / "reached"))
+        return [line for name, wanted, words in uses(room) for line in differing(name, wanted, run(judge, *words))]
 
 
 def of_refused(command, wanted, library, mark):
@@ -300,13 +268,14 @@ def refused(judge, room):
 def trials(judge, cases, defaults, room):
     """All trials: each a function and its arguments."""
     chance, (library, marks) = random.Random(5), (preloaded("refuse", room), itertools.count())
-    yield from ((of_case, judge, case, chance) for case, _, _ in cases)
+    yield from ((of_segments, judge, case.name, case.settings, [text for text, _ in case.segments], case.verdict, chance) for case, _, _ in cases)
     for name, segments in damaged_segments():
         yield of_segments, judge, name, b"", segments, verdict_of_segments(settings_of(""), segments), random.Random(len(name))
-    yield from [(of_later, judge), (of_starts, judge), (of_held, judge), (of_uses, judge, defaults), (of_pipe, judge, defaults), (of_damaged, judge)]
+    yield from ((of_uses_of, judge, uses) for uses in (of_later, of_starts, of_held, of_damaged))
+    yield from [(of_uses, judge, defaults), (of_pipe, judge, defaults)]
     # The segments that another one follows, of the legal journals among the first twelve.
     for case, settings, paths in cases[:12]:
-        for path, following in zip(paths, texts_of(case)[1:]) if is_legal(case) else ():
+        for path, (following, _) in zip(paths, case.segments[1:]) if case.verdict.startswith(b"legal ") else ():
             yield of_refused, [judge, settings, path], base_lines(following), library, room / f"refused-{next(marks)}"
     (room / "folders").mkdir()
     for command, wanted in refused(judge, room / "folders"):
@@ -316,7 +285,7 @@ def trials(judge, cases, defaults, room):
 def main(judge, *words):
     with scratch() as room:
         cases, (defaults,) = list(segmented(unpacked(room, *words))), write_files(room, {"defaults.toml": b""})
-        return play_trials(list(trials(judge, cases, defaults, room)))
+        return tell(played(list(trials(judge, cases, defaults, room))), 100)
 
 
 if __name__ == "__main__":

@@ -7,29 +7,25 @@
     play_library.py many LIBRARY POOL
     play_library.py crowd LIBRARY
 
-LIBRARY is libzuphinka.a, as `rt lib` builds it. The programs bindings/c/examples/plain_life.c, bindings/c/examples/long_life.c and tests/play.c are
-compiled with bindings/c/include/zuphinka.h by the C compiler that CC names, or cc, and linked with it and with the kit's heap.
+The programs bindings/c/examples/plain_life.c and long_life.c and tests/play.c are compiled by the C compiler that CC names, or cc, and linked with
+LIBRARY and with the kit's heap.
 
-- programs: `plain_life examples/settings.toml` must write the journal of examples/plain-life.script, which stands here, and end with status 0;
-  and so it must, and `play` with the first case that ends with status 0, whole and cut, under valgrind, with no fault and nothing
-  left behind. `plain_life` and `long_life` must take settings of LONGEST_SETTINGS bytes and no more, and must free each object before they
-  report it as destroyed (tests/destroy_first.c). `play` must find a line with a null at fault. The header must compile by itself, as C and C++,
-  without one of the warnings of STRICT. The C++ compilers are g++ and clang++, or the one that CXX names.
-- cases: `play` of the settings and the script of a case must write its journal, and end with status 0 and nothing on standard error; or, if the
-  case has an error, with status 3 and that line. `play` of an empty script must end with status 0 if the answer to the settings is 'ok', and else
-  with status 3 and that line.
-- refused: each case that ends with status 0, whole and, where it has no more than SHORT entries, cut, is played once for each of the library's
+- programs: `plain_life` must write the journal of examples/plain-life.script. It and `play`, with a case whole and cut, also run under valgrind, with no
+  fault and nothing left behind. The examples take settings of LONGEST_SETTINGS bytes and no more, and free each object before they report it as
+  destroyed (tests/destroy_first.c). `play` must find a line with a null at fault. The header must compile by itself, as C and C++ (g++ and clang++, or
+  the one that CXX names), without one of the warnings of STRICT.
+- cases: `play` of the settings and the script of a case must write its journal, or end with its error; of an empty script it must answer to settings.
+- refused: each case that ends with status 0, whole and, if it has no more than SHORT entries, cut, is played once for each of the library's
   allocations, which is refused then, and must write the same.
 - segments: each case that ends with status 0 is cut every so many entries, for each of EVERY, and must write the segments that
-  tests/pool_model.py has, which POOL, the program, must judge legal together.
+  tests/pool_model.py has, which POOL must judge legal together.
 - many: the same of a pool that makes OBJECTS of them and parks most, and is cut where all are lent; and the segments of `long_life`, each named
-  for its first entry, must be judged legal together, also of a run under valgrind. A second run over the same folder must
-  end early, and replace none.
+  for its first entry, also of a run under valgrind. A second run over the same folder must end early, and replace none.
 - crowd: so many borrows as in CROWDS wait for one object, and each gets it in its turn (tests/crowd.c). Memory is taken for the lists of calls in
   progress and of entries as they double, and for more tickets than TICKETS; and for nothing else. Each of the borrows' allocations is refused in turn:
-  then one borrow ends for lack of memory, and all others are served. Also under valgrind, where it is installed.
+  then one borrow ends for lack of memory, and all others are served. Also under valgrind.
 
-What needs valgrind or a compiler that is missing is skipped, with the reason. Prints each run that differs, and in the end the line 'N passed, M failed'.
+What needs valgrind or a compiler that is missing is skipped, with the reason.
 """
 
 import itertools
@@ -115,7 +111,7 @@ def cut_cases(play, pool, case):
 
 def many_differing(play, pool):
     """What differs in a run over many objects."""
-    (first, made), (second, parked), (_, asked) = segments_of(settings_of(NO_LIMITS), OBJECTS)[0]
+    (first, made), (second, parked), (_, asked) = segments_of(OBJECTS)[0]
     parts = [first + made, second + parked + asked]
     with scratch() as folder:
         settings, script = write_files(folder, {"settings": NO_LIMITS.encode(), "script": script_of(made + parked + asked)})
@@ -132,8 +128,8 @@ def long_differing(life, pool, before, rounds):
         paths = sorted(made.iterdir())
         lengths = [path.read_bytes().count(b" = ") for path in paths]
         names = [f"segment-{first:020}" for first in itertools.accumulate(lengths[:-1], initial=0)]
-        if [path.name for path in paths] != names or len(names) < rounds // 25:
-            found.append(f"long_life: segments {[path.name for path in paths]}, of {lengths} entries")
+        is_cut = [path.name for path in paths] == names and len(names) >= rounds // 25
+        found += [f"long_life: segments {[path.name for path in paths]}, of {lengths} entries"] * (not is_cut)
         found += differing("long_life, again", (b"", b"long_life: ended early\n", 1), run(*command))
         return found + differing("long_life, judged", (b"legal %d\n" % (4 * rounds + 4), b"", 0), run(pool, "check", settings, *paths))
 
@@ -145,20 +141,17 @@ def crowd_of(*words):
     return list(map(int, found.groups())) if found else [0] * 6, f"{words[-2:]}: {done}"
 
 
-def is_served(size, waits, ended, waited, first, served, by_pairs):
-    """Whether all of a crowd's borrows waited, and lists took memory as they doubled: at most as often as their lengths have bits."""
-    lists = 1 if size <= TICKETS else 3  # the calls in progress; and the tickets, in two lists
-    has_few = 1 <= waited <= lists * size.bit_length() + 2 and first <= TICKETS.bit_length() + 2
-    return (waits, ended) == (size, 0) and has_few and 1 <= served + by_pairs <= (4 * (size + 1_000)).bit_length() + 2
-
-
 def crowds(crowd):
-    """What differs in each crowd, and where one allocation of its borrows is refused."""
+    """What differs in each crowd, and where one allocation of its borrows is refused. All borrows wait, and lists take memory as they double: at most as
+    often as their lengths have bits."""
     runs = []
     for size in CROWDS:
-        numbers, told = crowd_of(crowd, str(size), "0")
-        yield [told] * (not is_served(size, *numbers))
-        runs += [([crowd], size, refused) for refused in range(1, numbers[2] + 1)]
+        (*ends, waited, first, served, by_pairs), told = crowd_of(crowd, str(size), "0")
+        lists = 1 if size <= TICKETS else 3  # the calls in progress; and the tickets, in two lists
+        has_few = 1 <= waited <= lists * size.bit_length() + 2 and first <= TICKETS.bit_length() + 2
+        is_served = ends == [size, 0] and has_few and 1 <= served + by_pairs <= (4 * (size + 1_000)).bit_length() + 2
+        yield [told] * (not is_served)
+        runs += [([crowd], size, refused) for refused in range(1, waited + 1)]
     if has("a crowd under valgrind", "valgrind"):
         runs.append(([*VALGRIND, crowd], CROWDS[0], 2))
     for words, size, refused in runs:

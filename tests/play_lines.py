@@ -2,10 +2,8 @@
 
     play_lines.py POOL
 
-POOL is the program. A script goes through `run`, a journal through `check` and `stats`; what is wrong with a line stands beside it here. The
-lines of an object follow the first line of a base, which `check` reads after the segment that it continues.
-
-Prints each case that differs, and in the end the line 'N passed, M failed'.
+A script goes through `run`, a journal through `check` and `stats`; what is wrong with a line stands beside it here. The lines of an object follow the
+first line of a base, which `check` reads after the segment that it continues.
 """
 
 import itertools
@@ -33,17 +31,13 @@ NO_ANSWERS = {
 }
 # Lines of a script.
 NO_REQUESTS = {
-    "not a line": [b"0 1 borrow\n", b"0  1 close\n", b"0 1 borrow 2 \n"],
+    "not a line": [b"0 1 borrow\n", b"0  1 close\n", b"0 1 borrow 2 \n"], "truncated": [b"0 1 close"], "line too long": [b"a" * 300],
     "bad number": [b"0 1 borrow 01\n", b"4294967296 0 close\n", b"0 18446744073709551616 close\n"],
-    "truncated": [b"0 1 close"],
-    "line too long": [b"a" * 300],
 }
 # Lines of a journal. The longest line has 256 bytes with its line feed.
 NO_ENTRIES = {
     "not a line": [b"0 10 borrow 10\n", b"0 10 borrow 10 make 0\n", b"0 10 borrow 10 = make\n", b"a" * 255 + b"\n"],
-    "bad number": [b"0 10 borrow 10 = make 00\n", b"1" * 255 + b"\n"],
-    "truncated": [b"0 1 close", b"a" * 255],
-    "line too long": [b"a" * 256],
+    "bad number": [b"0 10 borrow 10 = make 00\n", b"1" * 255 + b"\n"], "truncated": [b"0 1 close", b"a" * 255], "line too long": [b"a" * 256],
 }
 # First lines of a base.
 NO_FIRST_LINES = {
@@ -66,8 +60,7 @@ NO_OBJECTS = {
         b"0 adding 0 0 0  new\n", b"1 40 ready 0 good = lent\n", b"0 0 borrow 0 = take 0\n", b"0 gone 0 0 0 0 old\n", b"0 absent 0 0 0 0 old\n",
         b"0 idle 3 0 0 0 older\n",
     ],
-    "bad number": [b"0 idle 03 0 0 0 old\n", b"18446744073709551616 idle 3 0 0 0 old\n"],
-    "truncated": [b""],
+    "bad number": [b"0 idle 03 0 0 0 old\n", b"18446744073709551616 idle 3 0 0 0 old\n"], "truncated": [b""],
 }
 # Journals with a line at fault behind others: its number, and what is wrong with it.
 BEHIND_OTHERS = [
@@ -83,39 +76,32 @@ SCRIPTS = [
 ]
 
 
-def told_of(line, what):
-    """What must be answered where a line is at fault and nothing is written before."""
-    return fault(f"line {line}: {what}")
-
-
 def lines_of(table, before=b"", behind=b""):
     """The lines of a table, each with its fault. Where the table has words, what comes before and behind them is given."""
     return [(before + words + behind, what) for what, many in table.items() for words in many]
 
 
 def cases():
-    """Each case: the words, the text, and what must be answered."""
+    """Each case: the words, the text, what must be written, and the number and the fault of a line, if one is at fault."""
     # Scripts with a line at fault.
     for line, what in [*lines_of(NO_INPUTS, b"0 1 ", b"\n"), *lines_of(NO_REQUESTS)]:
-        yield ["run", "defaults"], line, told_of(1, what)
+        yield ["run", "defaults"], line, b"", 1, what
     for script, answered, what in SCRIPTS:
-        journal = b"".join(PLAIN_LIFE.splitlines(keepends=True)[:answered])
-        yield ["run", "defaults"], script, (journal, *told_of(answered + 1, what)[1:])
+        yield ["run", "defaults"], script, b"".join(PLAIN_LIFE.splitlines(keepends=True)[:answered]), answered + 1, what
     # Journals with a line at fault.
     for line, what in [*lines_of(NO_ANSWERS, b"0 1 close = ", b"\n"), *lines_of(NO_ENTRIES), *lines_of(NO_FIRST_LINES)]:
-        yield ["stats"], line, told_of(1, what)
-        yield ["check", "defaults"], line, told_of(1, what)
+        yield ["stats"], line, b"", 1, what
+        yield ["check", "defaults"], line, b"", 1, what
     for text, what in lines_of(NO_OBJECTS, FIRST_LINE):
-        yield ["stats"], text, told_of(2, what)
-        yield ["check", "defaults", "first"], text, told_of(2, what)
+        yield ["stats"], text, b"", 2, what
+        yield ["check", "defaults", "first"], text, b"", 2, what
     for text, line, what in BEHIND_OTHERS:
-        yield ["stats"], text, told_of(line, what)
+        yield ["stats"], text, b"", line, what
     # A journal that is cut off at each byte is legal where its last line is whole.
     for count in range(len(PLAIN_LIFE) + 1):
-        text = PLAIN_LIFE[:count]
-        lines = text.count(b"\n")
+        lines = PLAIN_LIFE[:count].count(b"\n")
         is_whole = count in (0, 24, 49, 71, 97)
-        yield ["check", "defaults"], text, (b"legal %d\n" % lines, b"", 0) if is_whole else told_of(lines + 1, "truncated")
+        yield ["check", "defaults"], PLAIN_LIFE[:count], b"legal %d\n" % lines * is_whole, lines + 1, None if is_whole else "truncated"
 
 
 def main(pool):
@@ -125,8 +111,9 @@ def main(pool):
 
         def differences(number, case):
             """What differs in a case, which has a file of its own."""
-            words, text, wanted = case
+            words, text, output, line, what = case
             write_files(folder, {number: text})
+            wanted = output, *(fault(f"line {line}: {what}")[1:] if what else (b"", 0))
             return differing(f"{' '.join(words)} of {text!r}", wanted, run(program, *words, str(number), cwd=folder))
 
         return tell(side_by_side(differences, itertools.count(), cases()))

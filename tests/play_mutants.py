@@ -3,11 +3,9 @@
 
     play_mutants.py [CRATE..]
 
-`rt ci` tries each edit of crates/*/must-fail, but passes it as soon as one function is rejected. This checks, in a copy of each crate that has an edit
-one_mistake_in_each, the functions that the edit changes and those that they call. The libraries below the crates must be built. What passed is kept in
-the user's folder for caches, by the checksums of all that it stands on, and not tried again.
-
-Prints what is wrong, and in the end the line 'N passed, M failed'.
+`rt ci` passes an edit as soon as one function is rejected. This checks, in a copy of each crate that has an edit one_mistake_in_each, the functions that
+the edit changes and those that they call. The libraries below the crates must be built. What passed is kept in the user's folder for caches, by the
+checksums of all that it stands on, and not tried again.
 """
 
 import concurrent.futures
@@ -19,9 +17,8 @@ import re
 import shutil
 import subprocess
 import sys
-import tempfile
 
-from playing import TOP, play_checks
+from playing import TOP, play_checks, run, scratch
 
 import kit
 import sources
@@ -45,23 +42,14 @@ def replacements(edit):
             yield path, old, rest
 
 
-def without_parameters(header):
-    """The words of an impl block after its own type parameters."""
-    depth = 0
-    for at, sign in enumerate(header):
-        depth += (sign == "<") - (sign == ">")
-        if not depth:
-            return header[at + (sign == ">") :]
-    return header
-
-
 def function_at(path, before):
     """The end of the prover's name of the function that these lines of a file end in: its module, or its type and trait, and its own name."""
     name = re.findall(r"\bfn (\w+)", before)[-1]
     found = re.search(r"^impl\b([^{]*)\{(?!.*^impl\b)(?!.*^\})", before, re.MULTILINE | re.DOTALL)
     if not found:
         return "::".join([*(module for module in pathlib.Path(path).with_suffix("").parts[1:] if module != "lib"), name])
-    trait, _, of = without_parameters(found[1].strip()).rpartition(" for ")
+    # Without the block's own type parameters.
+    trait, _, of = re.sub(r"^<([^<>]|<([^<>]|<[^<>]*>)*>)*>", "", found[1].strip()).rpartition(" for ")
     words = [*re.findall(r"\w+", of)[:1], *re.findall(r"\w\w+(?!\w*::)", trait)]
     return f"{''.join(words)}::{name}"
 
@@ -76,27 +64,21 @@ def mistaken(room, edit):
     return functions
 
 
-def verdicts(crate):
+def checks_of(crate):
     """The functions that the edit of a crate changes, and those that the prover rejects, of these and of those that they call."""
     folder = TOP / "crates" / crate
-    with tempfile.TemporaryDirectory() as name:
-        room = pathlib.Path(name)
+    with scratch() as room:
         for part in sources.PARTS:
             if (folder / part).is_dir():
                 shutil.copytree(folder / part, room / part)
         functions = [*dict.fromkeys(mistaken(room, sources.edit_with_mistakes(crate)))]
         only = [word for function in functions for word in ("--only", function)]
         words = [kit.rtlib().RATTLE, "check", *kit.crate_of(crate).words(["--jobs", "1"], False, keeps=False), *only]
-        done = subprocess.run(words, cwd=room, stdin=subprocess.DEVNULL, stdout=subprocess.PIPE, stderr=subprocess.STDOUT, text=True)
-    return functions, re.findall(rf"^fn {crate}::(\S+): (?:{REJECTED})", done.stdout, re.MULTILINE)
-
-
-def checks_of(crate):
-    functions, rejected = verdicts(crate)
+        done = run(*map(str, words), cwd=room, stderr=subprocess.STDOUT, text=True, timeout=None)
+    rejected = re.findall(rf"^fn {crate}::(\S+): (?:{REJECTED})", done.stdout, re.MULTILINE)
     yield f"{crate}: the edit changes several functions", True, len(functions) > 1
-    for function in functions:
-        yield f"{crate}: {function} is rejected", 1, sum(f"::{name}".endswith(f"::{function}") for name in rejected)
-    yield f"{crate}: so many functions are rejected, and no other", len(functions), len(rejected)
+    found = {function: sum(f"::{name}".endswith(f"::{function}") for name in rejected) for function in functions}
+    yield f"{crate}: each is rejected, and no other", (dict.fromkeys(functions, 1), len(functions)), (found, len(rejected))
 
 
 def record_of(crate):

@@ -1,8 +1,8 @@
 """Runs the examples over PostgreSQL, in Rust, Java and C, while the server fails in several ways.
 
-    play_postgres.py LIBRARY POOL
+    play_postgres.py LIBRARY JUDGE
 
-LIBRARY is libzuphinka.a, and POOL the program `pool`. The server is one of this test's own, in a temporary folder. Eight workers of each example
+LIBRARY is libzuphinka.a, and JUDGE the program `judge`. The server is one of this test's own, in a temporary folder. Eight workers of each example
 transfer money over four connections. Meanwhile the server's processes are ended at random, it is restarted, it is stopped for three seconds as in a
 crash, and it is restarted with a limit of two connections and without. Then
 
@@ -14,10 +14,11 @@ crash, and it is restarted with a limit of two connections and without. Then
 - nothing is lent at the end, each connection is closed, and no process of the server is left;
 - the journal is legal, has the counts that the example prints, and as many connections as the server has seen.
 
-What needs a package that is missing is skipped, with the reason. Prints what fails, and in the end the line 'N passed, M failed'.
+What needs a package that is missing is skipped, with the reason.
 """
 
 import collections
+import contextlib
 import pathlib
 import re
 import signal
@@ -38,22 +39,17 @@ from contest import REGISTRY, built_by_cargo, runs_cargo
 from install import POOL, heap_of_kit
 
 CONNECTIONS = 4
-# For how long an example transfers, in seconds. Its failures take some eleven.
-SECONDS = 40
-# How long it may take to begin and to end, in seconds.
-SLACK = 120
+# For how long an example transfers, in seconds: its failures take some eleven; and how long it may take to begin and to end.
+SECONDS, SLACK = 40, 120
 # How soon a transfer begins after a failure, in seconds, in one of how many tries.
 SOON, TRIES = 1.0, 3
 # How many processes are ended, and the time between two of them, in seconds.
 ENDED, APART = 8, 0.15
-STOPPED = 3
-FEW = 2
+STOPPED, FEW = 3, 2
 # The time between two looks at the server's processes, in seconds, and how often that must have succeeded.
 PAUSE, LEAST_LOOKS = 0.1, 10
-# How long an answer of an example may take, in seconds.
-LONGEST_ANSWER = 30
-# All of it ends after this time, in seconds.
-LONGEST = 900
+# How long an answer of an example may take, and all of it, in seconds.
+LONGEST_ANSWER, LONGEST = 30, 900
 # The tables of the examples, and what watches them: the users of processes, those that were used, and a count of transfers that began.
 WATCHED = f"""SET ROLE {ROLE};
 {TABLES}CREATE TABLE users (backend int PRIMARY KEY, worker int NOT NULL);
@@ -86,37 +82,26 @@ def over_connection_string(program):
     return lambda port, base, *words: [program, f"host=127.0.0.1 port={port} user={ROLE} dbname={base}", *words]
 
 
-def in_rust():
-    """Builds the example in Rust, if its dependencies are there."""
-    if not has("the example over PostgreSQL in Rust", "librust-tokio-postgres-dev"):
-        return None
-    if not runs_cargo():
-        return skip("the example over PostgreSQL in Rust", NO_CARGO)
-    crate = TOP / "bindings/rust"
-    built = built_by_cargo(crate / "examples/postgres", registry=REGISTRY, target=crate / "target/postgres")
-    return Example("rust", 10_000, over_connection_string(built / "postgres"))
+def examples(library, folder):
+    """Builds the examples of whose dependencies all are there."""
+    what, crate = "the example over PostgreSQL in", TOP / "bindings/rust"
+    if has(f"{what} Rust", "librust-tokio-postgres-dev"):
+        if runs_cargo():
+            built = built_by_cargo(crate / "examples/postgres", registry=REGISTRY, target=crate / "target/postgres")
+            yield Example("rust", 10_000, over_connection_string(built / "postgres"))
+        else:
+            skip(f"{what} Rust", NO_CARGO)
+    if has(f"{what} C", "libpq-dev"):
+        program = compiled("postgres", library, folder, ["-pthread", "-I", "/usr/include/postgresql", POOL, "-lpq"])
+        yield Example("c", 10_000, over_connection_string(program))
+    if has(f"{what} Java", "libpostgresql-jdbc-java", "libcommons-dbcp2-java", "default-jdk-headless", "libcommons-pool2-java"):
+        path = f"{java.build(library, heap_of_kit(), folder / 'java')}:{java.DEBIAN_JAR.parent}/*"
 
+        def command(port, base, seconds, journal, metrics):
+            options = ["-XX:-UsePerfData", "-cp", path, f"-Dmetrics.port={metrics}", TOP / "bindings/java/examples/Bank.java"]
+            return [java.jdk() / "bin/java", *options, journal, f"jdbc:postgresql://127.0.0.1:{port}/{base}?user={ROLE}", seconds]
 
-def in_c(library, folder):
-    """Compiles the example in C, if libpq is there."""
-    if not has("the example over PostgreSQL in C", "libpq-dev"):
-        return None
-    program = compiled("postgres", library, folder, ["-pthread", "-I", "/usr/include/postgresql", POOL, "-lpq"])
-    return Example("c", 10_000, over_connection_string(program))
-
-
-def in_java(library, folder):
-    """Builds the pool for Java, if what the example needs is there."""
-    packages = ("libpostgresql-jdbc-java", "libcommons-dbcp2-java", "default-jdk-headless", "libcommons-pool2-java")
-    if not has("the example over PostgreSQL in Java", *packages):
-        return None
-    path = f"{java.build(library, heap_of_kit(), folder / 'java')}:{java.DEBIAN_JAR.parent}/*"
-    begin, program = [java.jdk() / "bin/java", "-XX:-UsePerfData", "-cp", path], TOP / "bindings/java/examples/Bank.java"
-
-    def command(port, base, seconds, journal, metrics):
-        return [*begin, f"-Dmetrics.port={metrics}", program, journal, f"jdbc:postgresql://127.0.0.1:{port}/{base}?user={ROLE}", seconds]
-
-    return Example("java", 2_000, command)
+        yield Example("java", 2_000, command)
 
 
 class Watch(threading.Thread):
@@ -135,26 +120,16 @@ class Watch(threading.Thread):
             before = now
 
 
-class Program:
+@contextlib.contextmanager
+def running(command, folder):
     """A program that runs, whose output and errors go to files of a folder."""
-
-    def __init__(self, command, folder):
-        self.files = [folder / name for name in ("output", "errors")]
-        with open(self.files[0], "wb") as output, open(self.files[1], "wb") as errors:
-            options = {"stdin": subprocess.DEVNULL, "stdout": output, "stderr": errors}
-            self.process = subprocess.Popen([*WITH_PARENT, "KILL", *map(str, command)], **options)
-
-    def is_alive(self):
-        return self.process.poll() is None
-
-    def ended(self):
-        """Waits for its end. Returns its status, what it wrote, and its errors."""
-        status = self.process.wait(SECONDS + SLACK)
-        return status, *(file.read_text(errors="replace") for file in self.files)
-
-    def stop(self):
-        self.process.kill()
-        self.process.wait()
+    with open(folder / "output", "wb") as output, open(folder / "errors", "wb") as errors:
+        process = subprocess.Popen([*WITH_PARENT, "KILL", *map(str, command)], stdin=subprocess.DEVNULL, stdout=output, stderr=errors)
+    try:
+        yield process
+    finally:
+        process.kill()
+        process.wait()
 
 
 def begun(server, base):
@@ -208,34 +183,22 @@ def seconds_after(fail, server, base):
     return least
 
 
-def served(port):
-    """The type and the text of the metrics that a program serves, or why there are none and no text."""
-    try:
-        with urllib.request.urlopen(f"http://127.0.0.1:{port}/metrics", timeout=LONGEST_ANSWER) as answer:
-            return answer.headers["Content-Type"], answer.read().decode()
-    except OSError as error:
-        return str(error), ""
-
-
 def metrics(name, port):
     """What is wanted of the metrics that a program serves while transfers run, and what they are."""
     if not openmetrics.is_read(f"the metrics of the example over PostgreSQL in {name}"):
         return
-    kind, text = served(port)
+    with urllib.request.urlopen(f"http://127.0.0.1:{port}/metrics", timeout=LONGEST_ANSWER) as answer:
+        kind, text = answer.headers["Content-Type"], answer.read().decode()
     yield f"{name}: the type of its metrics", "application/openmetrics-text; version=1.0.0; charset=utf-8", kind
-    fault = openmetrics.fault_of(openmetrics.pools_of, text)
-    yield f"{name}: its metrics", "", fault
-    if not fault:
-        pools = openmetrics.pools_of(text)
-        yield f"{name}: pools of its metrics", ["bank"], list(pools)
-        numbers = {sample: pools["bank"][f"zuphinka_{sample}"] for sample in ("created_objects_total", "destroyed_objects_total", "lent_objects")}
-        present = numbers["created_objects_total"] - numbers["destroyed_objects_total"]
-        yield f"{name}: objects of its metrics", True, 1 <= present <= CONNECTIONS and numbers["lent_objects"] <= present or numbers
-        ended = pools["bank"]["zuphinka_loan_seconds_count"], pools["bank"]["zuphinka_loan_seconds_sum"]
-        yield f"{name}: loans of its metrics", True, 0 < ended[0] <= pools["bank"]["zuphinka_borrows_total"] and ended[1] > 0 or ended
+    pools = openmetrics.pools_of(text)
+    yield f"{name}: pools of its metrics", ["bank"], list(pools)
+    samples = "created_objects_total", "destroyed_objects_total", "lent_objects", "loan_seconds_count", "borrows_total", "loan_seconds_sum"
+    made, destroyed, lent, ended, borrows, seconds = numbers = [pools["bank"][f"zuphinka_{sample}"] for sample in samples]
+    is_right = 1 <= made - destroyed <= CONNECTIONS and lent <= made - destroyed and 0 < ended <= borrows and seconds > 0
+    yield f"{name}: {samples}", True, is_right or numbers
 
 
-def failures(name, server, base, program, port):
+def failures(name, server, base, process, port):
     """Lets the server fail in all ways, and yields what is wanted of the program meanwhile, and what came of it."""
     has_begun = seconds_until_transfer(server, base, SLACK) < SLACK
     yield f"{name}: it begins", True, has_begun
@@ -244,7 +207,7 @@ def failures(name, server, base, program, port):
         seconds = seconds_after(fail, server, base)
         print(f"{name}: {failure}: a transfer after {1000 * seconds:.0f} ms")
         yield f"{name}: {failure}: a transfer soon", True, seconds <= SOON or seconds
-    yield f"{name}: it still runs", True, program.is_alive()
+    yield f"{name}: it still runs", None, process.poll()
 
 
 def counts_of(lines):
@@ -256,9 +219,9 @@ def counts_of(lines):
     return asked, freed, asked - failed
 
 
-def journal(name, pool, folder, told, log, used):
+def journal(name, judge, folder, told, log, used):
     """What is wanted of the journal, and what came of it."""
-    yield f"{name}: its journal", *stored_journal(pool, folder)
+    yield f"{name}: its journal", *stored_journal(judge, folder)
     asked, freed, made = counts_of(line for segment in start_of(folder).glob("segment-*") for line in segment.read_text().splitlines())
     yield f"{name}: the counts of its journal", (asked, freed), (int(told["created"]), int(told["destroyed"]))
     least, most = sessions_of(log)
@@ -276,9 +239,10 @@ def money(name, euros, server, base, told):
     yield f"{name}: users that are left", "0", server.ask("SELECT count(*) FROM users", base)
 
 
-def report(name, program):
+def report(name, process, folder):
     """Reads what the program prints. Returns its words by their names, and what is wanted of it, and what came of it."""
-    status, text, errors = program.ended()
+    status = process.wait(SECONDS + SLACK)
+    text, errors = ((folder / file).read_text(errors="replace") for file in ("output", "errors"))
     found = REPORT.fullmatch(text)
     print(f"{name}: {text.strip()!r}")
     checks = [(f"{name}: its status and report", (0, True), (status, found is not None) if status == 0 and found else (status, text, errors[-1000:]))]
@@ -288,22 +252,21 @@ def report(name, program):
     return found and found.groupdict(), checks
 
 
-def played(example, server, pool, folder):
+def played(example, server, judge, folder):
     """Plays an example. Yields what is wanted of it, and what came of it."""
     name, base, place = example.name, f"{ROLE}_{example.name}", folder / f"run-{example.name}"
     place.mkdir()
     server.ask(f"CREATE DATABASE {base} OWNER {ROLE}")
     server.ask(WATCHED, base)
     begin, watch, port = server.log.stat().st_size, Watch(server), free_port()
-    program = Program(example.command(server.port, base, SECONDS, place / "journal", port), place)
-    watch.start()
-    try:
-        yield from failures(name, server, base, program, port)
-        told, found = report(name, program)
-    finally:
-        watch.is_over.set()
-        watch.join()
-        program.stop()
+    with running(example.command(server.port, base, SECONDS, place / "journal", port), place) as process:
+        watch.start()
+        try:
+            yield from failures(name, server, base, process, port)
+            told, found = report(name, process, place)
+        finally:
+            watch.is_over.set()
+            watch.join()
     yield from found
     yield f"{name}: processes of the server that are left", set(), server.backends()
     yield f"{name}: more than {CONNECTIONS} processes at a time", ([], True), (watch.excess, watch.looks >= LEAST_LOOKS)
@@ -312,22 +275,22 @@ def played(example, server, pool, folder):
     if told:
         used = set(server.ask("SELECT backend FROM used", base).split())
         yield from money(name, example.euros, server, base, told)
-        yield from journal(name, pool, place / "journal", told, log, used)
+        yield from journal(name, judge, place / "journal", told, log, used)
 
 
-def checks(library, pool):
+def checks(library, judge):
     with tempfile.TemporaryDirectory(prefix="zuphinka-", ignore_cleanup_errors=True) as name:
         folder = pathlib.Path(name)
-        examples = [in_rust(), in_c(library, folder), in_java(library, folder)]
+        built = [*examples(library, folder)]
         with Server(folder) as server:
-            for example in filter(None, examples):
-                yield from played(example, server, pool, folder)
+            for example in built:
+                yield from played(example, server, judge, folder)
 
 
-def main(library, pool):
+def main(library, judge):
     end_by(signal.SIGTERM, signal.SIGHUP, signal.SIGALRM, last="\n0 passed, 1 failed")
     signal.alarm(LONGEST)
-    return play_checks(checks(pathlib.Path(library), pathlib.Path(pool)) if has("the examples over PostgreSQL", "postgresql") else ())
+    return play_checks(checks(pathlib.Path(library), pathlib.Path(judge)) if has("the examples over PostgreSQL", "postgresql") else ())
 
 
 if __name__ == "__main__":

@@ -2,10 +2,7 @@
 
     play_program.py POOL
 
-POOL is the program. The files that it is shown are made in a temporary folder. It also runs the program over thousands of lists of
-words, and compares each answer with a reading of the rules in Python (argument_rules.py).
-
-Prints each case that differs, and in the end the line 'N passed, M failed'.
+It also runs over thousands of lists of words, compared with a reading of the rules in Python (argument_rules.py).
 """
 
 import itertools
@@ -100,33 +97,30 @@ def fault(text):
 
 
 def good_runs():
-    script, journal = FILES["plain.script"], FILES["plain.journal"]
+    script, journal, legal = FILES["plain.script"], FILES["plain.journal"], told(b"legal 4\n")
     yield [], told(b"")
     yield [], told(journal), {"input": script}
     for settings in ["defaults.toml", "small.toml", "longest.toml", "all_kinds.toml", "sp\u00e4t und leer.toml", "./defaults.toml"]:
         yield ["run", settings, "plain.script"], told(journal)
         yield ["run", settings, "empty"], told(b"")
-        yield ["check", settings, "plain.journal"], told(b"legal 4\n")
+        yield ["check", settings, "plain.journal"], legal
         yield ["check", settings, "empty"], told(b"legal 0\n")
         yield ["check", settings, "illegal.journal"], (b"illegal 2 check\n", b"", 1)
     yield ["run", "--", "-hyphen.toml", "plain.script"], told(journal)
     yield ["run", "defaults.toml", "plain.script", "--"], told(journal)
-    yield ["check", "defaults.toml", "plain.journal", "--"], told(b"legal 4\n")
+    yield ["check", "defaults.toml", "plain.journal", "--"], legal
     yield ["run", "/dev/stdin", "plain.script"], told(journal), {"input": b"maxTotal = 1\n"}
-    yield ["check", "/dev/stdin", "plain.journal"], told(b"legal 4\n"), {"input": b"maxTotal = 1\n"}
+    yield ["check", "/dev/stdin", "plain.journal"], legal, {"input": b"maxTotal = 1\n"}
     yield ["run", "small.toml", "/dev/stdin"], told(journal), {"input": script}
     # The settings that the file says are those that hold.
-    for settings in ["small.toml", "longest.toml"]:
-        yield ["run", settings, "two_borrows.script"], told(TWO_BORROWS)
+    yield from ((["run", settings, "two_borrows.script"], told(TWO_BORROWS)) for settings in ("small.toml", "longest.toml"))
     yield ["check", "defaults.toml", "/dev/stdin"], (b"illegal 1 make 1\n", b"", 1), {"input": TWO_BORROWS}
     yield ["check", "small.toml", "/dev/stdin"], told(b"legal 2\n"), {"input": TWO_BORROWS}
 
 
 def runs_of_statistics():
     plain, most = told(statistics(1, 1, 1, 0, 0, 0, 0, 4, 4)), 2**64 - 1
-    yield ["stats", "plain.journal"], plain
-    yield ["stats", "--", "plain.journal"], plain
-    yield ["stats", "plain.journal", "--"], plain
+    yield from ((["stats", *words.split()], plain) for words in ("plain.journal", "-- plain.journal", "plain.journal --"))
     yield ["stats", "empty"], told(statistics(*[0] * 9))
     yield ["stats", "illegal.journal"], told(statistics(1, 0, 1, 0, 0, 0, 0, 0, 0))
     yield ["stats", "/dev/stdin"], told(statistics(0, 1, 0, 0, 0, 0, 0, 0, 0)), {"input": b"0 5 return 0 = check\n"}
@@ -136,34 +130,33 @@ def runs_of_statistics():
         claimed = FILES[name].replace(b"\n", b" = make 0\n")
         yield ["stats", "/dev/stdin"], fault("line 1: " + what), {"input": claimed}
         yield ["stats", "/dev/stdin"], fault("line 5: " + what), {"input": PLAIN_LIFE + claimed}
-    yield ["stats", "plain.script"], fault("line 1: not a line")
-    yield ["stats", "missing"], fault("cannot open missing")
-    yield ["stats", "folder"], fault("read failed")
+    for name, what in ("plain.script", "line 1: not a line"), ("missing", "cannot open missing"), ("folder", "read failed"):
+        yield ["stats", name], fault(what)
 
 
-def load_lines(workers, rounds, refused, *numbers):
-    """The lines of a load."""
-    return f"workers {workers}\nrounds {rounds}\nrefused {refused}\n".encode() + statistics(*numbers)
+def load_of(workers, rounds, refused, *numbers):
+    """The answer to a load."""
+    return told(f"workers {workers}\nrounds {rounds}\nrefused {refused}\n".encode() + statistics(*numbers))
 
 
-def load_of(rounds):
+def load_of_one(rounds):
     """The answer to a load of one worker."""
-    return told(load_lines(1, rounds, 0, rounds, rounds, 1, 1, 0, 0, 0, 1, rounds))
+    return load_of(1, rounds, 0, rounds, rounds, 1, 1, 0, 0, 0, 1, rounds)
 
 
 def runs_of_short_loads():
     for settings in ["defaults.toml", "seven_entries.toml", "small.toml", "four_objects.toml"]:
-        yield ["load", settings, "1", "1"], load_of(1)
-    yield ["load", "--", "-hyphen.toml", "1", "1"], load_of(1)
-    yield ["load", "/dev/stdin", "1", "1"], load_of(1), {"input": b"journalLimit = 7\n"}
-    yield ["load", "four_objects.toml", "1", "5"], load_of(5)
+        yield ["load", settings, "1", "1"], load_of_one(1)
+    yield ["load", "--", "-hyphen.toml", "1", "1"], load_of_one(1)
+    yield ["load", "/dev/stdin", "1", "1"], load_of_one(1), {"input": b"journalLimit = 7\n"}
+    yield ["load", "four_objects.toml", "1", "5"], load_of_one(5)
     yield ["load", "seven_entries.toml", "1", "2"], fault("journal full")
 
 
 def runs_of_loads():
     for rounds in (1000, MOST_ROUNDS):
-        yield ["load", "defaults.toml", "1", str(rounds)], load_of(rounds)
-    yield ["load", "no_objects.toml", "3", "5"], told(load_lines(3, 5, 15, *[0] * 9))
+        yield ["load", "defaults.toml", "1", str(rounds)], load_of_one(rounds)
+    yield ["load", "no_objects.toml", "3", "5"], load_of(3, 5, 15, *[0] * 9)
     yield ["load", "defaults.toml", "1", str(MOST_ROUNDS + 1)], fault("journal full")
     yield ["load", "two_entries.toml", "1023", "1000000"], fault("journal full")
     for settings in ["defaults.toml", "missing.toml", "not_toml.toml"]:
@@ -271,10 +264,9 @@ def failing_streams(folder):
     """Runs whose output is lost, and one without standard input."""
     full, lost = open("/dev/full", "wb"), fault("write failed")
     yield [], lost, {"input": FILES["plain.script"], "stdout": full}
-    for words in "run defaults.toml plain.script", "check defaults.toml plain.journal", "check defaults.toml illegal.journal":
+    checks = "check defaults.toml plain.journal", "check defaults.toml illegal.journal"
+    for words in "run defaults.toml plain.script", *checks, "stats plain.journal", "load defaults.toml 1 1":
         yield words.split(), lost, {"stdout": full}
-    yield ["stats", "plain.journal"], lost, {"stdout": full}
-    yield ["load", "defaults.toml", "1", "1"], lost, {"stdout": full}
     yield ["nonsense"], (b"", b"", 2), {"stderr": full}
     yield ["run", "missing", "missing"], (b"", b"", 3), {"stderr": full}
     yield [], fault("read failed"), {"stdin": os.open(folder, os.O_RDONLY)}

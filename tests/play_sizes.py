@@ -3,23 +3,19 @@
     play_sizes.py POOL
 
 POOL is the program. Sizes are spread from 1 to the limit, or to 1,200,000 lines and 100,000 objects, with the numbers about powers of 2 for texts
-and keys. What must be answered is known for each size without playing. Bases are those of
-tests/pool_model.py. Clears must destroy objects in the order in which they were parked, each once.
+and keys. What must be answered is known for each size without playing. Bases are those of tests/pool_model.py. Clears must destroy objects in the order
+in which they were parked, each once.
 
 Reclaims that find nothing must not walk over all lent objects: valgrind counts the instructions of scripts of two lengths, with as many objects.
-
-Prints each case that differs, and in the end the line 'N passed, M failed'.
 """
 
 import pathlib
-import re
 import sys
 
 from argument_rules import statistics
 from case_files import script_of
 from many_objects import NO_LIMITS, segments_of
-from playing import differing, has, run, scratch, side_by_side, tell, write_files
-from pool_model import settings_of
+from playing import differing, has, instructions, run, scratch, side_by_side, tell, write_files
 
 LONGEST_TEXT = 1_048_576
 LINES = [1, 2, 10, 100, 1_000, 4_096, 10_000, 65_535, 65_536, 65_537, 100_001, 300_000, 1_048_577, 1_200_000]
@@ -40,7 +36,7 @@ def lengths(limit):
 # What a part plays, in a folder of its own: functions that yield the name of a run, its words and its answer, once its files are there.
 
 
-def with_limit(folder, limit):
+def with_limit(folder, limit=2**32):
     write_files(folder, {"limits.toml": NO_LIMITS.replace("4294967296", str(limit)).encode()})
 
 
@@ -68,7 +64,7 @@ def lines(folder):
 
 
 def objects(folder):
-    with_limit(folder, 2**32)
+    with_limit(folder)
     for count in OBJECTS:
         entries = [*parked(count), f"0 2 borrow 2 = take {count - 1}", f"0 3 ready {count - 1} good = lent"]
         yield from journal_runs(folder, f"{count} objects", entries)
@@ -77,7 +73,7 @@ def objects(folder):
 
 def clears(folder):
     """Pools that are cleared, in which a place is freed then, and one more object is made. Ids are never used again."""
-    with_limit(folder, 2**32)
+    with_limit(folder)
     for count in CLEARED:
         entries = [*parked(count), f"0 1 clear = count {count}", *(f"0 1 clearnext = destroyidle {i}" for i in range(count))]
         entries += ["0 1 clearnext = nothing", f"0 2 destroyed {count // 2} = freed", f"0 2 add = make {count}"]
@@ -85,10 +81,10 @@ def clears(folder):
 
 
 def bases(folder):
-    with_limit(folder, 2**32)
+    with_limit(folder)
     check, files = ["check", "limits.toml"], ["first", "second", "third"]
     for count in RECORDS:
-        segments, pool = segments_of(settings_of(NO_LIMITS), count)
+        segments, pool = segments_of(count)
         write_files(folder, {name: base + entries for name, (base, entries) in zip(files, segments)})
         yield f"bases of {count} objects", [*check, *files], (b"legal %d\n" % pool.position, b"", 0)
         yield f"a base of {count} objects, one lost", [*check, "first", "third"], (b"illegal base 1\n", b"", 1)
@@ -98,34 +94,26 @@ def bases(folder):
         yield f"a base of {count} objects, changed at its end", [*check, *files], (b"illegal base 2\n", b"", 1)
 
 
-def texts(folder):
-    """Settings of all lengths."""
-    known, unknown, taken = b"lifo = false\n", b"life = false\n", (b"", b"", 0)
+def settings_texts():
+    """Settings of all lengths, each with a name, and with what is wrong with them, if anything is."""
+    known, unknown = b"lifo = false\n", b"life = false\n"
     for length in lengths(LONGEST_TEXT):
-        write_files(folder, {"a.toml": b"#".ljust(length, b"c")})
-        yield f"a comment of {length} bytes", ["run", "a.toml", "/dev/null"], taken
+        yield f"a comment of {length} bytes", b"#".ljust(length, b"c"), None
         if length > len(known):
-            write_files(folder, {"a.toml": b"#".ljust(length - len(known) - 1, b"c") + b"\n" + known})
-            yield f"a setting at the end of {length} bytes", ["run", "a.toml", "/dev/null"], taken
-            write_files(folder, {"a.toml": unknown + b"#".ljust(length - len(unknown), b"c")})
-            yield f"an unknown key before {length} bytes", ["check", "a.toml", "/dev/null"], settings_fault(b"unknown key life")
-    write_files(folder, {"a.toml": b"#".ljust(LONGEST_TEXT + 1, b"c")})
-    yield "a comment that is too long", ["run", "a.toml", "/dev/null"], settings_fault(b"too long")
-
-
-def settings_fault(told):
-    return b"", b"pool: settings: " + told + b"\n", 3
-
-
-def keys(folder):
+            yield f"a setting at the end of {length} bytes", b"#".ljust(length - len(known) - 1, b"c") + b"\n" + known, None
+            yield f"an unknown key before {length} bytes", unknown + b"#".ljust(length - len(unknown), b"c"), b"unknown key life"
+    yield "a comment that is too long", b"#".ljust(LONGEST_TEXT + 1, b"c"), b"too long"
     for length in lengths(LONGEST_TEXT - len(b" = 1")):
-        write_files(folder, {"a.toml": b"k" * length + b" = 1"})
-        yield f"a key of {length} bytes", ["run", "a.toml", "/dev/null"], settings_fault(b"unknown key " + b"k" * length)
+        yield f"a key of {length} bytes", b"k" * length + b" = 1", b"unknown key " + b"k" * length
     for length in lengths(LONGEST_TEXT // 2 - 4):
-        write_files(folder, {"a.toml": b'"' + b"\\n" * length + b'"=1'})
-        yield f"a key of {length} line feeds", ["run", "a.toml", "/dev/null"], settings_fault(b"unknown key " + b"\\n" * length)
-        write_files(folder, {"a.toml": b"[abandoned]\n" + b"k" * length + b"=1"})
-        yield f"a key of {length} bytes in the table", ["check", "a.toml", "/dev/null"], settings_fault(b"unknown key abandoned." + b"k" * length)
+        yield f"a key of {length} line feeds", b'"' + b"\\n" * length + b'"=1', b"unknown key " + b"\\n" * length
+        yield f"a key of {length} bytes in the table", b"[abandoned]\n" + b"k" * length + b"=1", b"unknown key abandoned." + b"k" * length
+
+
+def texts(folder):
+    for name, text, fault in settings_texts():
+        write_files(folder, {"a.toml": text})
+        yield name, ["run", "a.toml", "/dev/null"], (b"", b"pool: settings: %s\n" % fault, 3) if fault else (b"", b"", 0)
 
 
 def instructions_of_reclaims(pool, folder, objects):
@@ -135,17 +123,15 @@ def instructions_of_reclaims(pool, folder, objects):
     lent = (f"0 {id} borrow {id}\n0 {id} ready {id} good\n" for id in range(objects))
     used = (f"0 {at} use {at % objects}\n0 {at} reclaim maintain\n" for at in range(objects, 3 * objects))
     write_files(folder, {"script": "".join([*lent, *used]).encode()})
-    done = run("valgrind", "--tool=callgrind", "--callgrind-out-file=/dev/null", pool, "run", "a.toml", "script", cwd=folder)
-    if done.returncode or done.stdout.count(b" reclaim maintain = count 0\n") != 2 * objects:
-        raise ValueError(done.stderr.decode(errors="replace"))
-    return int(re.search(rb"Collected : (\d+)", done.stderr)[1])
+    done, number = instructions(pool, "run", "a.toml", "script", cwd=folder)
+    return number if done.stdout.count(b" reclaim maintain = count 0\n") == 2 * objects else -1
 
 
 def reclaim_differences(pool):
     """Why reclaims walk: with four times as many objects and lines a script takes 16 times as many instructions then, and otherwise 4 to 5."""
     with scratch() as folder:
         few, many = (instructions_of_reclaims(pool, folder, objects) for objects in RECLAIMED)
-    return [] if many < MOST_GROWTH * few else [f"reclaims: {few} instructions with {RECLAIMED[0]} objects, {many} with {RECLAIMED[1]}"]
+    return [] if 0 < many < MOST_GROWTH * few else [f"reclaims: {few} instructions with {RECLAIMED[0]} objects, {many} with {RECLAIMED[1]}"]
 
 
 def played(pool, part):
@@ -156,7 +142,7 @@ def played(pool, part):
 
 def main(pool):
     pool = pathlib.Path(pool).resolve()
-    found = [found for part in side_by_side(lambda part: played(pool, part), [lines, objects, clears, bases, texts, keys]) for found in part]
+    found = [found for part in side_by_side(lambda part: played(pool, part), [lines, objects, clears, bases, texts]) for found in part]
     return tell(found + ([reclaim_differences(pool)] if has("the work of reclaims", "valgrind") else []))
 
 

@@ -2,11 +2,8 @@
 
     play_terminal.py POOL
 
-POOL is the program. Standard error is a terminal of the test's own, or a pipe. It judges a journal that comes slowly, from standard
-input; and it is used with wrong arguments, with files that have errors, and with several files of which one is not legal. The lines of an error must be
-those that crates/pool_tasks/specs/Hints.antt says.
-
-Prints each case that differs, and in the end the line 'N passed, M failed'.
+Standard error is a terminal of the test's own, or a pipe. The program judges a journal that comes slowly, from standard input; and it is used with
+wrong arguments, with files that have errors, and with several files of which one is not legal.
 """
 
 import contextlib
@@ -24,30 +21,25 @@ ENTRY = b"7 0 use 0 = refused notlent\n"
 # More than is read at once, and longer apart than a second.
 PIECE = 3_000
 PAUSE = 1.2
-WIPED = b"\r\x1b[K"
-NOTHING = re.compile(b"")
-TOLD = re.compile(rb"(\r\x1b\[Kpool: \d+( of \d+)? MB)+" + re.escape(WIPED))
+NOTHING, TOLD = re.compile(b""), re.compile(rb"(\r\x1b\[Kpool: \d+( of \d+)? MB)+\r\x1b\[K")
 SEGMENT = b"pool-journal 2 4 1 open none 0 0 0 1\n0 idle 3 16 11 11 old\n0 20 borrow 20 = take 0\n"
 FILES = {
-    "defaults.toml": b"", "two.toml": b"journalLimit = 2\n", "bad.toml": b"maxTotal = 1\n\nminIdle =\n",
-    "key.toml": b"maxTotal = 1\nmaxTotl = 8\n", "bytes.toml": b"lifo = true # \xff\n", "script": b"0 0 borrow 0\n",
+    "defaults.toml": b"", "two.toml": b"journalLimit = 2\n", "bad.toml": b"maxTotal = 1\n\nminIdle =\n", "script": b"0 0 borrow 0\n",
+    "key.toml": b"maxTotal = 1\nmaxTotl = 8\n", "bytes.toml": b"lifo = true # \xff\n", "returns.toml": b"maxTotal = 1\r\nminIdle =\r\n",
     "journal": PLAIN_LIFE, "segment": SEGMENT, "joined": PLAIN_LIFE + SEGMENT, "returns": PLAIN_LIFE.replace(b"\n", b"\r\n"),
-    "returns.toml": b"maxTotal = 1\r\nminIdle =\r\n", "headed": SEGMENT.partition(b"\n")[0] + b"\n", "two\nlines": b"x\n", "worse": SEGMENT + b"x\n", "long": b"a" * 300, "number": b"0 1 borrow 01 = wait\n", "cut": PLAIN_LIFE[:-1],
-    "wrong": PLAIN_LIFE.replace(b"check", b"gone"),
+    "headed": SEGMENT.partition(b"\n")[0] + b"\n", "two\nlines": b"x\n", "worse": SEGMENT + b"x\n", "long": b"a" * 300,
+    "number": b"0 1 borrow 01 = wait\n", "cut": PLAIN_LIFE[:-1], "wrong": PLAIN_LIFE.replace(b"check", b"gone"),
 }
-USES = "try pool --help"
 SWAPPED = "this is a script or a journal: SETTINGS comes first"
 LIMIT = "a larger journalLimit in the settings makes room"
 ENDS_EARLY = "the file ends within a line, or within its base"
 ANSWERED = "this line of a journal has an answer: pool check and pool stats take a journal"
 # Words, and the lines of the error at a terminal. Each but the first is a hint.
 HINTS = [
-    ("play", ["wrong arguments", USES]),
-    ("load defaults.toml x 1", ["wrong arguments", USES]),
+    ("play", ["wrong arguments", "try pool --help"]),
+    ("load defaults.toml x 1", ["wrong arguments", "try pool --help"]),
     ("load defaults.toml 0 1", ["wrong arguments", "WORKERS is 1 to 1023, and ROUNDS is 1 to 1000000"]),
-    ("--help", ["wrong arguments"]),
-    ("run -h", ["wrong arguments"]),
-    ("--version", ["wrong arguments"]),
+    ("--help", ["wrong arguments"]), ("run -h", ["wrong arguments"]), ("--version", ["wrong arguments"]),
     ("run missing script", ["cannot open missing"]),
     ("run script defaults.toml", ["settings: not TOML", "in script, line 1", SWAPPED]),
     ("check journal defaults.toml", ["settings: not TOML", "in journal, line 1", SWAPPED]),
@@ -78,28 +70,22 @@ VERDICTS = [
 ]
 
 
-def read_all(end):
-    """All that is written to a terminal, until nobody has it open."""
-    told = b""
-    with contextlib.suppress(OSError):
-        while piece := os.read(end, 4096):
-            told += piece
-    return told
-
-
 def ended(command, folder, at_terminal, given=subprocess.DEVNULL):
     """What a program writes to standard output, and to standard error, which is a terminal or a pipe, and its status."""
     ours, theirs = pty.openpty() if at_terminal else os.pipe()
-    run = subprocess.Popen(command, cwd=folder, stdin=given, stdout=subprocess.PIPE, stderr=theirs)
+    run, told = subprocess.Popen(command, cwd=folder, stdin=given, stdout=subprocess.PIPE, stderr=theirs), b""
     os.close(theirs)
-    told = read_all(ours)
+    # A terminal that nobody has open any more is an error.
+    with contextlib.suppress(OSError):
+        while piece := os.read(ours, 4096):
+            told += piece
     os.close(ours)
     return run.communicate(timeout=60)[0], told, run.returncode
 
 
 def judge(pool, folder, pieces, last, at_terminal):
     """How the program ends that checks a journal which comes slowly: in pieces, with pauses between them."""
-    write_files(folder, {"defaults.toml": b"", "piece": ENTRY * PIECE, "last": last})
+    write_files(folder, {"piece": ENTRY * PIECE, "last": last})
     slowly = f"; sleep {PAUSE}; ".join(["cat piece"] * pieces)
     with subprocess.Popen(["sh", "-c", f"{slowly}; cat last"], cwd=folder, stdout=subprocess.PIPE) as journal:
         return ended([pool, "check", "defaults.toml", "/dev/stdin"], folder, at_terminal, journal.stdout)
@@ -107,8 +93,6 @@ def judge(pool, folder, pieces, last, at_terminal):
 
 def hint_cases(pool, folder):
     """Each use with an error, what it must tell a terminal, and what it tells. To a pipe tests/play_program.py has it tell the first line alone."""
-    write_files(folder, FILES)
-    (folder / "folder").mkdir()
     for words, (first, *hints) in HINTS:
         lines = [f"pool: {first}", *(f"  {hint}" for hint in hints)]
         yield words, "".join(f"{line}\r\n" for line in lines).encode(), ended([pool, *words.split(" ")], folder, True)[1]
@@ -116,12 +100,10 @@ def hint_cases(pool, folder):
 
 def verdict_cases(pool, folder):
     """Each check, what it must print, also on standard error, which is a terminal or a pipe, and what it prints."""
-    write_files(folder, FILES)
     for words, verdict, wrong in VERDICTS:
         command, status = [pool, "check", "defaults.toml", *words.split(" ")], int(not verdict.startswith("legal"))
-        told = f"  in {wrong}\r\n".encode() if wrong else b""
-        yield f"check {words}, at a terminal", (f"{verdict}\n".encode(), told, status), ended(command, folder, True)
-        yield f"check {words}, to a pipe", (f"{verdict}\n".encode(), b"", status), ended(command, folder, False)
+        for place, told in ("at a terminal", f"  in {wrong}\r\n".encode() if wrong else b""), ("to a pipe", b""):
+            yield f"check {words}, {place}", (f"{verdict}\n".encode(), told, status), ended(command, folder, place == "at a terminal")
 
 
 def progress_cases(pool, folder):
@@ -144,10 +126,11 @@ def progress_cases(pool, folder):
 
 
 def checks(pool):
-    pool = str(pathlib.Path(pool).resolve())
-    for cases in progress_cases, hint_cases, verdict_cases:
-        with scratch() as made:
-            yield from cases(pool, made)
+    with scratch() as folder:
+        write_files(folder, FILES)
+        (folder / "folder").mkdir()
+        for cases in progress_cases, hint_cases, verdict_cases:
+            yield from cases(str(pathlib.Path(pool).resolve()), folder)
 
 
 if __name__ == "__main__":

@@ -2,8 +2,7 @@
 
     play_tools.py POOL LIBRARY
 
-POOL is the program, LIBRARY the core's C library. What `./try` writes is compared with what the program writes. Prints each thing that differs, and in
-the end the line 'N passed, M failed'.
+What `./try` writes is compared with what the program writes.
 """
 
 import shutil
@@ -30,7 +29,7 @@ def checks(pool, library):
         yield "./try", (used(pool, *EXAMPLE)[0], 0), used("./try", *EXAMPLE)[::2]
     else:
         skip("./try", "no kit is here")
-    for name in ("peers", "longest_waits", "database", "soak"):
+    for name in ("peers", "longest_waits", "database", "soak", "audits", "instructions"):
         yield f"bench/{name} --help", True, used(f"bench/{name}", "--help")[0].startswith(f"usage: {name} ")
     table, _, status = used("bench/peers", "--only", "C", "--pairs", "4000", "--rounds", "1", "--pool", pool, "--library", library)
     yield "bench/peers", (True, True), (status in (0, 1), "| 1 object, 4 threads | " in table)

@@ -5,8 +5,6 @@
 The kit's `rt try` compiles the program once, and plays the cases on it. The plays are those of play_cases.py, without the statistics and the journals
 with a wrong answer, since `rt try` takes half a second or so for each. What the program writes to standard error is not looked at. Without the kit all
 of it is skipped.
-
-Prints each case that differs, and in the end the line 'N passed, M failed'.
 """
 
 import pathlib
@@ -16,7 +14,7 @@ import sys
 
 from case_files import unpacked
 from play_cases import TEXT, plays
-from playing import TOP, play_checks, run, scratch, skip_all
+from playing import TOP, play_checks, run, scratch, skip_all, write_files
 
 CASE = re.compile(r"^case=(\S+) run=(\S+)(?: status=(\d+))?.*? output=(\S+) proved=no$", flags=re.MULTILINE)
 # What `rt try` says of a run that ended and wrote what is wanted.
@@ -25,37 +23,21 @@ RIGHT = "ended", "expected"
 COMMANDS = ("run", "check")
 
 
-def lay_play(folder, number, arguments, output):
-    """Lays the files of a play: the last file that the program reads as its input, the words of the program, and the output that is wanted. Returns the
-    other files that the words name, by the names that they get."""
-    command, *files = arguments
-    *others, last = files
-    names = {f"{number}.{place}": file for place, file in enumerate(others)}
-    (folder / str(number)).write_bytes(pathlib.Path(last).read_bytes())
-    (folder / f"{number}.args").write_text("".join(f"{word}\n" for word in [command, *names, "{}"]))
-    (folder / f"{number}.stdout").write_bytes(output)
-    return names
-
-
-def played(folder, data):
-    """What `rt try` says of the plays in a folder: by number, how it ended and its status."""
-    words = [word for name, file in data.items() for word in ("--data", f"{name}={file}")]
-    done = run("rt", "try", *words, "--cases", folder, cwd=TOP / "crates/pool", text=True)
-    found = {number: ((end, output), status) for number, end, status, output in CASE.findall(done.stderr)}
-    if not found:
-        print(done.stdout + done.stderr)
-    return found
-
-
 def checks(paths):
     with scratch() as made:
-        room, folder = made / "cases", made / "plays"
+        folder, data = made / "plays", []
         folder.mkdir()
-        chosen = [play for play in plays(unpacked(room, *paths)) if play[1][0] in COMMANDS and TEXT not in play[1]]
-        data = {}
-        for number, (_, arguments, _, (output, _, _)) in enumerate(chosen):
-            data |= lay_play(folder, number, arguments, output)
-        found = played(folder, data)
+        chosen = [play for play in plays(unpacked(made / "cases", *paths)) if play[1][0] in COMMANDS and TEXT not in play[1]]
+        for number, (_, (command, *others, last), _, (output, _, _)) in enumerate(chosen):
+            # The last file that the program reads is its input; the others that its words name get other names.
+            names = {f"{number}.{place}": file for place, file in enumerate(others)}
+            data += [word for name, file in names.items() for word in ("--data", f"{name}={file}")]
+            words = "".join(f"{word}\n" for word in (command, *names, "{}")).encode()
+            write_files(folder, {number: pathlib.Path(last).read_bytes(), f"{number}.args": words, f"{number}.stdout": output})
+        done = run("rt", "try", *data, "--cases", folder, cwd=TOP / "crates/pool", text=True)
+        found = {number: ((end, output), status) for number, end, status, output in CASE.findall(done.stderr)}
+        if not found:
+            print(done.stdout + done.stderr)
         for number, (case, arguments, _, (_, _, status)) in enumerate(chosen):
             yield f"{case}: {arguments[0]}", (RIGHT, str(status)), found.get(str(number))
 

@@ -1,11 +1,13 @@
 """What the scripts share that run programs, also with libraries that are loaded before them, compare what they do with what is wanted, and say what
-they skip. Once this is imported, they can import the modules of other folders too."""
+they skip. Each of them prints what differs, and in the end the line 'N passed, M failed'. Their words POOL, JUDGE and JOURNAL_PICTURE are programs of
+these names, and LIBRARY is libzuphinka.a. Once this is imported, they can import the modules of other folders too."""
 
 import concurrent.futures
 import contextlib
 import itertools
 import os
 import pathlib
+import re
 import subprocess
 import sys
 import tempfile
@@ -61,6 +63,15 @@ def peak(folder, *words, **options):
     return done, int(note.read_text())
 
 
+def instructions(*words, **options):
+    """Counts the instructions of a run, in all its threads, by callgrind. Returns what came of the run, and that number."""
+    done = run("valgrind", "--tool=callgrind", "--callgrind-out-file=/dev/null", *map(str, words), **options)
+    found = re.search(rb"Collected : (\d+)", done.stderr)
+    if done.returncode or not found:
+        raise RuntimeError(f"{words[0]} ended with {done.returncode}: {done.stderr.decode(errors='replace')}")
+    return done, int(found[1])
+
+
 def refusals(library, mark, *words, **options):
     """Runs a program with all allocations granted, and then once for each of them, which is refused then, by the library of refuse.c. Yields its
     number, 0 at first, and what came of the run. The file `mark` is there after a run in which one was refused."""
@@ -100,19 +111,15 @@ def write_files(folder, texts):
     return paths
 
 
-def from_difference(want, have):
-    """Two long texts, from a little before the first place at which they differ."""
-    if isinstance(want, int) or type(want) is not type(have) or len(want) <= MOST_PRINTED:
-        return want, have
-    start = max(0, len(os.path.commonprefix([want, have])) - BEFORE)
-    return want[start:], have[start:]
-
-
 def differing(name, wanted, done):
-    """What is wanted of a run and what it gave, for each of the streams and the status that differ."""
-    pairs = zip(KINDS, wanted, ended(done))
-    found = [(kind, *from_difference(want, have)) for kind, want, have in pairs if want != have]
-    return [f"{name}: {kind}: wanted {want!r:.{MOST_PRINTED}}, got {have!r:.{MOST_PRINTED}}" for kind, want, have in found]
+    """What is wanted of a run and what it gave, for each of the streams and the status that differ; of long texts from a little before the difference."""
+    found = []
+    for kind, want, have in zip(KINDS, wanted, ended(done)):
+        if want != have and not isinstance(want, int) and type(want) is type(have) and len(want) > MOST_PRINTED:
+            start = max(0, len(os.path.commonprefix([want, have])) - BEFORE)
+            want, have = want[start:], have[start:]
+        found += [f"{name}: {kind}: wanted {want!r:.{MOST_PRINTED}}, got {have!r:.{MOST_PRINTED}}"] * (want != have)
+    return found
 
 
 def start_of(folder):
@@ -121,14 +128,12 @@ def start_of(folder):
     return starts[0].parent if len(starts) == 1 else folder
 
 
-def stored_journal(pool, folder):
-    """What `pool check` is to say of the segments that are stored in a folder, or below it by one start of a pool, by their entries and the settings
-    there, and what it says. There are entries."""
+def stored_journal(judge, folder, least=1):
+    """What the program `judge` is to say of the segments that are stored in a folder, or below it by one start of a pool, by their entries, and what it
+    says. There are at least so many entries."""
     folder = start_of(folder)
-    segments = sorted(folder.glob("segment-*"))
-    entries = sum(path.read_bytes().count(b" = ") for path in segments)
-    done = run(pool, "check", folder / "settings.toml", *segments)
-    return (b"legal %d\n" % entries, b"", True), (done.stdout, done.stderr, entries > 0)
+    entries = sum(path.read_bytes().count(b" = ") for path in folder.glob("segment-*"))
+    return (b"legal %d\n" % max(least, entries), b"", 0), ended(run(judge, folder))
 
 
 def side_by_side(work, *lists):

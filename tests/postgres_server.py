@@ -105,8 +105,7 @@ class Server:
         self.control("stop", "-m", mode)
 
     def restart(self):
-        self.stop()
-        self.start()
+        self.control("restart", "-m", "fast", "-l", self.log)
 
     def answer(self, command, database="postgres"):
         """What the server answers the superuser, without the last line feed; or `None` if it fails. Tries again if attempts of the role, which the

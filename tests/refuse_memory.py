@@ -4,7 +4,7 @@
     refuse_memory.py shared PROGRAM OUTPUT CALLS
     refuse_memory.py by-chance PROGRAM OUTPUT SEEDS
 
-The file OUTPUT has what PROGRAM writes where all allocations are granted. It is run once for each of its allocations, which is refused then
+The file OUTPUT has what PROGRAM writes if all allocations are granted. It is run once for each of its allocations, which is refused then
 (tests/refuse.c, built with the C compiler that CC names, or cc). tests/refuse_uses.py does that with the program `pool`.
 
 - One that `goes-on` must write the whole of OUTPUT.
@@ -12,10 +12,8 @@ The file OUTPUT has what PROGRAM writes where all allocations are granted. It is
   line by line, the names of those of which each must have been answered so in some run, and no others may.
 - One of many threads is run once with all allocations granted, and then for each seed from 1 to SEEDS with one in six of them refused, in any of its
   threads. Each run must end within a minute and write the whole of OUTPUT. On standard error it tells how many of its calls were answered that there
-  is no memory, by lines 'CALL NUMBER': none where no allocation was refused; else some, but no more than there were refused allocations. Over all
+  is no memory, by lines 'CALL NUMBER': none if no allocation was refused; else some, but no more than there were refused allocations. Over all
   runs the calls of THREADED must each have been answered so.
-
-Prints each run and each call that is wrong, and in the end the line 'N passed, M failed'.
 """
 
 import collections
@@ -33,29 +31,17 @@ def is_whole(done, wanted):
     return done.returncode == 0 and done.stdout == wanted
 
 
-def goes_on(path, output_file):
-    """What is wrong with each run of a program."""
+def in_turn(path, output_file, calls_file=None):
+    """What is wrong with each run of a program, and with each call of a shared pool that is named."""
+    wanted = set(pathlib.Path(calls_file).read_text().splitlines()) if calls_file else set()
+    output, refused = pathlib.Path(output_file).read_bytes(), set()
     with scratch() as folder:
         for number, done in refusals(preloaded("refuse", folder), folder / "refused", path):
-            yield [f"allocation {number}: {done}"] * (not is_whole(done, pathlib.Path(output_file).read_bytes()))
-
-
-def shared(path, output_file, calls_file):
-    """What is wrong with each run of a test of a shared pool, and with each call that is named."""
-    output, wanted, refused = pathlib.Path(output_file).read_bytes(), set(pathlib.Path(calls_file).read_text().splitlines()), set()
-    with scratch() as folder:
-        for number, done in refusals(preloaded("refuse", folder), folder / "refused", path):
-            named = done.stderr.decode().splitlines()
+            named = done.stderr.decode().splitlines() if calls_file else []
             refused.update(named)
             yield [f"allocation {number}: {done}"] * (not is_whole(done, output) or (number == 0 and named != []))
     for call in sorted(wanted | refused):
         yield [f"{call}: " + ("never refused" if call in wanted else "not to be refused")] * (call not in wanted & refused)
-
-
-def calls_in(error):
-    """How often each call was refused."""
-    pairs = (line.rpartition(" ") for line in error.decode().splitlines())
-    return sum((collections.Counter({call: int(number)}) for call, _, number in pairs), collections.Counter())
 
 
 def by_chance(path, output_file, seeds):
@@ -67,7 +53,9 @@ def by_chance(path, output_file, seeds):
             mark.unlink(missing_ok=True)
             chance = {"REFUSE_SEED": str(seed), "REFUSE_OF": str(ONE_OF)} if seed else {}
             done = run(path, env=os.environ | {"LD_PRELOAD": str(library), "REFUSED": str(mark)} | chance, timeout=60)
-            calls = calls_in(done.stderr) if is_whole(done, wanted) else collections.Counter()
+            # How often each call was refused.
+            told = [line.rpartition(" ") for line in done.stderr.decode().splitlines()] if is_whole(done, wanted) else []
+            calls = sum((collections.Counter({call: int(number)}) for call, _, number in told), collections.Counter())
             refused += calls
             times = mark.stat().st_size if mark.exists() else 0
             is_right = is_whole(done, wanted) and bool(seed) == bool(calls) and calls.total() <= times
@@ -76,4 +64,4 @@ def by_chance(path, output_file, seeds):
 
 
 if __name__ == "__main__":
-    sys.exit(tell({"goes-on": goes_on, "shared": shared, "by-chance": by_chance}[sys.argv[1]](*sys.argv[2:])))
+    sys.exit(tell({"goes-on": in_turn, "shared": in_turn, "by-chance": by_chance}[sys.argv[1]](*sys.argv[2:])))

@@ -2,14 +2,11 @@
 
     refuse_uses.py POOL
 
-POOL is the program. It is used with files and with standard input, with wrong arguments and with files that have faults, as in
-tests/play_program.py, and on every EACH-th script of tests/cases. Each use is run once for each of its allocations, which is refused
-then (tests/refuse.c, built with the C compiler that CC names, or cc). It must then answer what it answers else; or end with status 3,
-after some whole lines from the front of that answer, and the line 'pool: out of memory', 'pool: no thread' where it starts threads, or
-'pool: cannot open ..' for one of its files. If the words are wrong, only status 3 with 'pool: out of
-memory' and no output may replace the answer. No use can do without its first allocation.
-
-Prints each run that is wrong, and in the end the line 'N passed, M failed'.
+It is used with files and with standard input, with wrong arguments and with files that have faults, as in tests/play_program.py, and on every EACH-th
+script of tests/cases. Each use is run once for each of its allocations, which is refused then (tests/refuse.c). It must then answer what it answers
+else; or end with status 3, after some whole lines from the front of that answer, and the line 'pool: out of memory', 'pool: no thread' where it starts
+threads, or 'pool: cannot open ..' for one of its files. If the words are wrong, only status 3 with 'pool: out of memory' and no output may replace the
+answer. No use can do without its first allocation.
 """
 
 import collections
@@ -19,6 +16,7 @@ import sys
 
 from argument_rules import found, task_of
 from case_files import CASES, unpacked, wanted_of
+from play_cases import wanted_of_script
 from play_program import lay_files, short_runs
 from playing import preloaded, refusals, scratch, side_by_side, tell
 
@@ -38,13 +36,10 @@ def uses():
 def uses_of_script(case, folder):
     """A run of a script; and a check of its journal and the statistics, if it runs to its end."""
     settings, script, journal = (str(folder / name) for name in ("settings.toml", "script", "journal"))
-    if not case.is_run:
-        return [Use(["run", settings, script], (case.journal, case.error, 3))]
-    return [
-        Use(["run", settings, script], (case.journal, b"", 0)),
-        Use(["check", settings, journal], (b"legal %d\n" % case.journal.count(b"\n"), b"", 0)),
-        Use(["stats", journal], wanted_of(case.statistics)),
-    ]
+    yield Use(["run", settings, script], wanted_of_script(case))
+    if case.is_run:
+        yield Use(["check", settings, journal], (b"legal %d\n" % case.journal.count(b"\n"), b"", 0))
+        yield Use(["stats", journal], wanted_of(case.statistics))
 
 
 def uses_of_segments(cases):

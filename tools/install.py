@@ -11,19 +11,12 @@ and AR, or ar, makes the archive; either may have words after it, as in a Makefi
     lib/libzuphinka.so.VERSION    the same as a shared library, which exports the functions of the headers and nothing else
     lib/libzuphinka.so.0.MINOR    a link to it, by the name that programs load: that of the versions with the same interface (from 1.0.0: .so.MAJOR)
     lib/libzuphinka.so            a link to that, by the name that `-lzuphinka` finds
-    lib/pkgconfig/zuphinka.pc, lib/pkgconfig/zuphinka-static.pc
+    lib/pkgconfig/                zuphinka.pc, and for the archive zuphinka-static.pc: cc server.c $(pkg-config --cflags --libs zuphinka-static)
     share/zuphinka/               the source of that pool: zuphinka_pool.c, and the headers that it alone includes
 
-so that a program is built with the archive by the first command, and with the shared library by the second:
-
-    cc -o server server.c $(PKG_CONFIG_PATH=FOLDER/lib/pkgconfig pkg-config --cflags --libs zuphinka-static)
-    cc -o server server.c $(PKG_CONFIG_PATH=FOLDER/lib/pkgconfig pkg-config --cflags --libs zuphinka)
-
-Under a folder of the system, such as /usr/local, run ldconfig afterwards, so that programs find the shared library.
-
-With --destdir the files are put below that folder, and name the prefix without it. What is installed already is replaced, links too. Programs that have
-it loaded keep what they have. All may read what is installed, whatever the umask. Prints each file that it installs. The status is 1 if a file is
-missing, a command fails or a folder can't be written; what was installed before may then be in part new.
+Under a folder of the system, such as /usr/local, run ldconfig afterwards, so that programs find the shared library. With --destdir the files are put
+below that folder, and name the prefix without it. They are put by coreutils' `install`: all may read them, and programs that have an older library
+loaded keep it. Prints each file. The status is 1 if one is missing or a command fails; what was installed before may then be in part new.
 """
 
 import argparse
@@ -31,7 +24,6 @@ import os
 import pathlib
 import re
 import shlex
-import shutil
 import subprocess
 import sys
 import tempfile
@@ -121,51 +113,29 @@ def link(shared, archive, name):
 
 
 def put(file, folder):
-    """Puts a file or a link into a folder, in place of one of its name, and gives its path. A program that uses the old one keeps it."""
-    there, part = folder / file.name, folder / f".{file.name}.part"
-    part.unlink(missing_ok=True)
-    shutil.copy(file, part, follow_symlinks=False)
-    if not part.is_symlink():
-        part.chmod(0o755 if file.stat().st_mode & 0o100 else 0o644)
-    os.replace(part, there)
+    """Puts a file or a link into a folder, in place of one of its name, and gives its path."""
+    there = folder / file.name
+    if file.is_symlink():
+        run("ln", "--symbolic", "--force", file.readlink(), there)
+    else:
+        run("install", "-D", f"--mode={'755' if file.stat().st_mode & 0o100 else '644'}", file, there)
     return there
-
-
-def make_folder(folder):
-    """Makes a folder that all may read, with those above it, unless it is there."""
-    if not folder.is_dir():
-        make_folder(folder.parent)
-        folder.mkdir()
-        folder.chmod(0o755)
-    return folder
-
-
-def build_libraries(folder, library, heap):
-    """Makes the archive and the shared library with its links in a folder, and gives the files."""
-    names = ["libzuphinka.a", f"libzuphinka.so.{version()}", loaded_name(), "libzuphinka.so"]
-    archive, shared, loaded, found = files = [folder / name for name in names]
-    merge(archive, library, heap)
-    link(shared, archive, loaded.name)
-    loaded.symlink_to(shared.name)
-    found.symlink_to(loaded.name)
-    return files
-
-
-def describe(folder, named):
-    """Makes the files for pkg-config in a folder, and gives them."""
-    files = [folder / f"{name}.pc" for name in LINKED]
-    for file in files:
-        file.write_text(PKG_CONFIG.format(prefix=named, name=file.stem, version=version(), linked=LINKED[file.stem]))
-    return files
 
 
 def install(prefix, named, library, heap):
     """Installs all of it under a prefix, which pkg-config knows by this name, and gives the files."""
-    folders = [prefix / name for name in ("include", "lib", "lib/pkgconfig", "share/zuphinka")]
     with tempfile.TemporaryDirectory() as name:
         built = pathlib.Path(name)
-        parts = [HEADERS, build_libraries(built, library, heap), describe(built, named), POOL_SOURCES]
-        return [put(file, make_folder(folder)) for folder, files in zip(folders, parts) for file in files]
+        archive, shared, loaded, found = (built / name for name in ("libzuphinka.a", f"libzuphinka.so.{version()}", loaded_name(), "libzuphinka.so"))
+        merge(archive, library, heap)
+        link(shared, archive, loaded.name)
+        loaded.symlink_to(shared.name)
+        found.symlink_to(loaded.name)
+        described = [built / f"{name}.pc" for name in LINKED]
+        for file in described:
+            file.write_text(PKG_CONFIG.format(prefix=named, name=file.stem, version=version(), linked=LINKED[file.stem]))
+        parts = {"include": HEADERS, "lib": [archive, shared, loaded, found], "lib/pkgconfig": described, "share/zuphinka": POOL_SOURCES}
+        return [put(file, prefix / folder) for folder, files in parts.items() for file in files]
 
 
 def main():
@@ -181,11 +151,7 @@ def main():
             sys.exit(f"{file}: no such file; python3 tools/build.py zuphinka builds the library")
     prefix = pathlib.Path(os.path.abspath(given.prefix))
     place = pathlib.Path(given.destdir).resolve() / prefix.relative_to("/") if given.destdir else prefix
-    try:
-        installed = install(place, prefix, given.library, heap)
-    except OSError as error:
-        sys.exit(f"{error.filename2 or error.filename or place}: {error.strerror}")
-    print(*installed, sep="\n")
+    print(*install(place, prefix, given.library, heap), sep="\n")
 
 
 if __name__ == "__main__":

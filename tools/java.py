@@ -29,7 +29,6 @@ JAVA = TOP / "bindings/java"
 DROP_IN = JAVA / "commons-pool2"
 OUT = JAVA / "out"
 LIBRARY = TOP / "crates/zuphinka/out/libzuphinka.a"
-BUILD = TOP / "tools/build.py"
 # The oldest Java that the classes run on, and the newest compiler whose warnings are errors: a later one may have others.
 RELEASE = "11"
 STRICT = 17
@@ -37,8 +36,6 @@ STRICT = 17
 QUICK = "-XX:TieredStopAtLevel=1"
 DEBIAN_JAR = pathlib.Path("/usr/share/java/commons-pool2.jar")
 MISSING = 3
-# By its name in the list of SPDX.
-LICENCE = "Apache-2.0"
 # The name of the jar as a module, which is that of the package.
 MODULE = "io.github.zuphinka"
 
@@ -83,7 +80,7 @@ def compile_classes(sources, to, *jars):
 
 def pack(classes, others, jar, title, attributes):
     """Makes a jar of classes and other files, with more attributes in its manifest. Each file has the earliest time that a jar can tell."""
-    lines = ["Manifest-Version: 1.0", f"Implementation-Title: {title}", f"Implementation-Version: {version()}", f"Bundle-License: {LICENCE}"]
+    lines = ["Manifest-Version: 1.0", f"Implementation-Title: {title}", f"Implementation-Version: {version()}", "Bundle-License: Apache-2.0"]
     manifest = "".join(f"{line}\n" for line in [*lines, *attributes])
     files = {"META-INF/MANIFEST.MF": manifest.encode()}
     files |= {path.relative_to(classes).as_posix(): path.read_bytes() for path in sorted(pathlib.Path(classes).rglob("*.class"))}
@@ -123,7 +120,7 @@ def main():
     except Missing as missing:
         print(f"java: {missing}", file=sys.stderr)
         return MISSING
-    if subprocess.run([sys.executable, BUILD, "zuphinka"]).returncode:
+    if subprocess.run([sys.executable, TOP / "tools/build.py", "zuphinka"]).returncode:
         return 1
     print(build(LIBRARY, heap_of_kit()))
     return 0

@@ -1,12 +1,31 @@
 """The parts of ./check, as it shows them. Those begin first that take longest. `./check --list` tells their names and what they test. Some are also
 parts of `./check quick`, and one of that alone. And the Debian packages that they need besides the Rattle kit, which `./check --install` installs."""
 
+import dataclasses
+import os
+import pathlib
+import shutil
+
 import sources
-from packages import Package
 from runner import Part
 
 # Cargo makes this folder under another name first, on which a build beside it may come that lists the files of the Rust crate. So it is there before.
 CARGO = ("bindings/rust/target",)
+
+
+@dataclasses.dataclass(frozen=True)
+class Package:
+    """A Debian package: its name; its sign, a command or the pattern of a path, by which it counts as installed, whatever it is from; the parts that
+    need it, or none if all do; and the variable that names another place of what it has."""
+
+    name: str
+    sign: str
+    parts: tuple[str, ...] = ()
+    variable: str = ""
+
+    def is_there(self):
+        is_path = self.sign.startswith("/")
+        return bool(os.environ.get(self.variable) or (any(pathlib.Path("/").glob(self.sign[1:])) if is_path else shutil.which(self.sign)))
 
 
 def libraries_of(*crates):
@@ -20,8 +39,7 @@ PROOFS = Part("proofs", "every proof, every test in Rattle, and that each mutant
 PARTS = (
     Part("mutants", "each function is rejected in which an edit makes one of several mistakes",
          "python3 tests/play_mutants.py", libraries_of(*sources.with_mistakes())),
-    Part("damaged", "damaged journals and segments", "python3 tests/play_damaged.py {pool}"),
-    Part("segments", "segments that are checked together, and the memory of that", "python3 tests/play_segments.py {pool} tests/cases"),
+    Part("segments", "damaged journals and segments, and segments that are checked together", "python3 tests/play_segments.py {pool} tests/cases"),
     Part("refused-uses", "each use of the program, with each allocation failing in turn", "python3 tests/refuse_uses.py {pool}"),
     Part("refused-lives", "whole lives of pools, with each allocation failing in turn",
          "python3 tests/refuse_memory.py goes-on {test_lifecycle} crates/test_lifecycle/stdout"),
@@ -40,7 +58,7 @@ PARTS = (
          "python3 tests/play_drop_in.py {zuphinka} {judge}"),
     Part("maven", "the jars of the pool for Java that Maven builds", "python3 tests/play_maven.py {zuphinka}"),
     Part("java-random", "six threads that call at random over a factory that fails, on the pool for Java; what Commons Pool 2 does there is shown",
-         "python3 tests/play_java_random.py {zuphinka}"),
+         "python3 tests/commons_random.py --threads {zuphinka}"),
     Part("commons-random", "random calls of one thread, each made of the pool for Java, or in place of Commons Pool 2, and of the library",
          "python3 tests/commons_random.py {zuphinka}"),
     Part("commons-pool", "the tests of Commons Pool 2, unchanged, over the pool for Java",
@@ -48,7 +66,7 @@ PARTS = (
     Part("commands", "the commands, journals and pictures that the pages show, and the examples of the settings",
          "python3 tests/play_commands.py {pool} {journal_picture}", ("judge", "example_archive", "zuphinka"), folders=CARGO),
     Part("postgres", "the examples over PostgreSQL, in Rust, Java and C, while the server fails",
-         "python3 tests/play_postgres.py {zuphinka} {pool}", folders=CARGO),
+         "python3 tests/play_postgres.py {zuphinka} {judge}", folders=CARGO),
     Part("c-pool", "the C pool for threads, also with failing allocations", "python3 tests/play_c_pool.py {zuphinka} {judge}"),
     Part("tools", "a use of ./check, ./try, tools/build.py and the benchmarks, and a wrong one",
          "python3 tests/play_tools.py {pool} {zuphinka}"),

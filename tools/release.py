@@ -6,10 +6,9 @@ The archive has the C library with its headers and its files for pkg-config, the
 programs pool, judge and journal_picture, the man page, examples, the licence, a README, and PROVED. That file has what ./check came to, the commit,
 the kit's line and a checksum of each other file, as `sha256sum --check` reads it.
 
---gate FILE names the log of ./check, whose commit must be the one that is checked out, without changes, and in whose last line nothing failed; how
-much was skipped stands in PROVED. A check of named parts tells no commit, and won't do. Without a log PROVED says that nothing was passed. --output
-FOLDER gets the archive, else the folder out/. What isn't built of its sources as they are is proved and built first. With --programs FOLDER what a
-clone there has built is taken as it is, and PROVED says that.
+--gate FILE names the log of a whole ./check that passed, of the commit that is checked out, without changes. Without a log PROVED says that nothing was
+passed. --output FOLDER gets the archive, else the folder out/. What isn't built of its sources as they are is proved and built first. With --programs
+FOLDER what a clone there has built is taken as it is, and PROVED says that.
 
 The jar needs a JDK and Commons Pool 2, as tools/java.py finds them.
 
@@ -34,9 +33,14 @@ import sources
 TOP = pathlib.Path(__file__).resolve().parent.parent
 PROGRAMS = ("pool", "judge", "journal_picture")
 LIBRARY = "zuphinka"
-C_EXAMPLES = ("first_loan.c", "plain_life.c", "long_life.c", "shared_life.c")
-# What the Rust crate is without its tests, which want the repository.
-CRATE = ("Cargo.toml", "Cargo.lock", "build.rs", "README.md", "src", "examples", "tests")
+# The files of the commit, as `git ls-files` takes their names, by the folder of the archive that gets them. What is behind the last slash is kept.
+PLACES = {
+    "": ("LICENSE", "CHANGELOG.md", "examples"),
+    "share/man/man1": ("docs/pool.1",),
+    "examples": ("bindings/c/examples/*_l*.c",),
+    "rust/zuphinka": ("bindings/rust/",),
+    "java": ("bindings/java/README.md", "bindings/java/examples"),
+}
 PASSED = re.compile(r"[1-9]\d* passed, 0 failed, \d+ skipped")
 # The last line of any run of ./check.
 ENDED = re.compile(r"\d+ passed, \d+ failed, \d+ skipped")
@@ -77,42 +81,25 @@ def built(crate, top):
     return file
 
 
-def not_of_commit(folder, names):
-    """Those of the names in a folder that `shutil.copytree` passes over."""
-    return {*names} - sources.of_commit(folder)
+def put(file, there):
+    there.parent.mkdir(parents=True, exist_ok=True)
+    shutil.copy(file, there)
 
 
 def lay_out(stage, programs):
-    """Puts all files in their places, except the README, PROVED and those for Java."""
-    shown = "${pcfiledir}/../.."
-    install.install(stage, shown, built(LIBRARY, programs), install.heap_of_kit())
-    crate = stage / "rust/zuphinka"
-    places = {stage / "bin": [built(name, programs) for name in PROGRAMS], stage / "share/man/man1": [TOP / "docs/pool.1"]}
-    places[stage / "examples"] = [TOP / "bindings/c/examples" / name for name in C_EXAMPLES]
-    places[stage / "examples"] += [TOP / "examples" / name for name in sources.of_commit(TOP / "examples")]
-    places[stage] = [TOP / "LICENSE", TOP / "CHANGELOG.md"]
-    places[crate / "lib"] = [stage / "lib/libzuphinka.a"]
-    for folder, files in places.items():
-        folder.mkdir(parents=True, exist_ok=True)
-        for file in files:
-            shutil.copy(file, folder)
-    for name in CRATE:
-        whole = TOP / "bindings/rust" / name
-        if whole.is_dir():
-            shutil.copytree(whole, crate / name, ignore=not_of_commit)
-        else:
-            shutil.copy(whole, crate / name)
-
-
-def lay_out_java(stage, programs):
-    """Builds the jars, and puts them, their page and the examples in their places."""
-    folder = stage / "java"
-    shutil.copytree(java.JAVA / "examples", folder / "examples", ignore=not_of_commit)
-    shutil.copy(java.JAVA / "README.md", folder)
+    """Puts all files in their places, except the README and PROVED."""
+    install.install(stage, "${pcfiledir}/../..", built(LIBRARY, programs), install.heap_of_kit())
+    for name in PROGRAMS:
+        put(built(name, programs), stage / "bin" / name)
+    for place, names in PLACES.items():
+        for name in names:
+            for file in sources.git("ls-files", "--cached", "--others", "--exclude-standard", "--", name).splitlines():
+                put(TOP / file, stage / place / pathlib.Path(file).relative_to(name.rpartition("/")[0]))
+    put(stage / "lib/libzuphinka.a", stage / "rust/zuphinka/lib/libzuphinka.a")
     with tempfile.TemporaryDirectory() as out:
         jar = java.build(built(LIBRARY, programs), install.heap_of_kit(), pathlib.Path(out))
         for file in jar, java.drop_in(jar.parent):
-            shutil.copy(file, folder)
+            put(file, stage / "java" / file.name)
 
 
 def describe(stage):
@@ -161,9 +148,7 @@ def main():
     with tempfile.TemporaryDirectory() as folder:
         stage = pathlib.Path(folder) / name
         stage.mkdir()
-        programs = (given.programs or TOP).resolve()
-        lay_out(stage, programs)
-        lay_out_java(stage, programs)
+        lay_out(stage, (given.programs or TOP).resolve())
         describe(stage)
         prove(stage, said, commit)
         pack(stage, archive)

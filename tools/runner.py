@@ -30,8 +30,8 @@ RUNNING = set()
 
 @dataclasses.dataclass(frozen=True)
 class Part:
-    """A part of ./check: what it tests; its command, in which {NAME} is what a build of the crate NAME leaves; the crates besides these that are
-    built before it; the folders that are there before it; and the command by which ./check --install fetches what it needs besides packages."""
+    """A part of ./check: what it tests; its command, in which {NAME} is what a build of the crate NAME leaves; the other crates that are built, and the
+    folders that are there before it; and the command by which ./check --install fetches what it needs besides packages."""
 
     name: str
     tests: str
@@ -121,9 +121,8 @@ class Progress:
 def is_ready(crate, gate):
     """Whether a crate needs no build: it is built of its sources as they are, or it is a program that the gate has just built, which first sets aside
     what was built before. Of a gate that failed, all that it left is taken: to build the rest would fail too, after minutes."""
-    if gate is not None and (sources.is_program(crate) or gate.failed) and sources.sum_of_product(crate):
-        return True
-    return sources.is_current(crate)
+    is_of_gate = gate is not None and (sources.is_program(crate) or gate.failed)
+    return bool(is_of_gate and sources.sum_of_product(crate)) or sources.is_current(crate)
 
 
 def build(crate, gate, progress):

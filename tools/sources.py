@@ -15,8 +15,6 @@ TOP = pathlib.Path(__file__).resolve().parent.parent
 NOTES = TOP / "out" / "built"
 # The folders of a crate that `rt` reads to prove and to build it.
 PARTS = ("src", "specs", "proofs")
-# The edit of a crate that makes a mistake in each of several functions.
-MISTAKES = "one_mistake_in_each"
 
 
 @functools.cache
@@ -43,8 +41,8 @@ def below(crate):
 
 
 def edit_with_mistakes(crate):
-    """The file of the edit of a crate that makes several mistakes."""
-    return TOP / "crates" / crate / "must-fail" / f"{MISTAKES}.edit"
+    """The file of the edit of a crate that makes a mistake in each of several functions."""
+    return TOP / "crates" / crate / "must-fail/one_mistake_in_each.edit"
 
 
 def with_mistakes():
@@ -92,11 +90,6 @@ def checked_out():
     a folder of another repository."""
     commit = git("rev-parse", "HEAD") if git("rev-parse", "--show-prefix") == "" else None
     return commit and commit + "-changed" * (git("status", "--porcelain", "--untracked-files=all") != "")
-
-
-def of_commit(folder):
-    """The names in a folder, but for what git ignores, such as files of editors."""
-    return {name.partition("/")[0] for name in (git("-C", str(folder), "ls-files", "--cached", "--others", "--exclude-standard") or "").splitlines()}
 
 
 def files_of(folder):
