@@ -959,7 +959,18 @@ static void test_maintenance(void) {
   let_go(&loans[0]);
   check_error(zuphinka_pool_give_back(pool, &loans[0]), ZUPHINKA_POOL_ERROR_GONE);
   check(loans[0].id == ZUPHINKA_POOL_NO_LOAN && counts_of(pool).reclaimed == 1 && atomic_load(&maker.alive) == 2);
-  give_back(pool, &loans[1]);
+  loans[0] = lend(pool);
+  atomic_store(&maker.now, 200);
+  fail_next(&maker, MAKE);
+  check_error(zuphinka_pool_maintain(pool, &done), ZUPHINKA_POOL_ERROR_MAKE_FAILED);
+  check(done.eviction.examined == 0 && done.reclaimed == 2 && done.filled == 0);
+  zuphinka_pool_close(pool);
+  check_error(zuphinka_pool_maintain(pool, &done), ZUPHINKA_POOL_ERROR_CLOSED);
+  check(done.eviction.examined == 0 && done.reclaimed == 0 && done.filled == 0);
+  for (int n = 0; n < 2; n++) {
+    let_go(&loans[n]);
+    check_error(zuphinka_pool_give_back(pool, &loans[n]), ZUPHINKA_POOL_ERROR_GONE);
+  }
   end_pool(pool);
 }
 
@@ -2717,7 +2728,7 @@ static void test_calls_of_an_empty_handle(void) {
   struct zuphinka_activity state = {.waiting = 7};
   uint64_t ticket = 7;
   bool is_lent = true;
-  for (uint32_t code = 0; code <= ZUPHINKA_KIND_MAINTAIN + 1; code++) {
+  for (uint32_t code = 0; code <= ZUPHINKA_KIND_CLOSE + 1; code++) {
     refuse(&pool, NULL, code, ZUPHINKA_STATUS_NOT_OPEN);
     refuse(&pool, &call, code, ZUPHINKA_STATUS_NOT_OPEN);
   }
@@ -3059,7 +3070,7 @@ static void test_lent_objects(void) {
 static void test_unknown_kinds(void) {
   struct zuphinka pool = open_driven(1, "");
   refuse(&pool, NULL, 0, ZUPHINKA_STATUS_BAD_REQUEST);
-  refuse(&pool, NULL, ZUPHINKA_KIND_MAINTAIN + 1, ZUPHINKA_STATUS_BAD_REQUEST);
+  refuse(&pool, NULL, ZUPHINKA_KIND_CLOSE + 1, ZUPHINKA_STATUS_BAD_REQUEST);
   refuse(&pool, NULL, UINT32_MAX, ZUPHINKA_STATUS_BAD_REQUEST);
   zuphinka_drop(&pool);
 }
@@ -3147,27 +3158,24 @@ static void test_refused_reports_without_room(void) {
   zuphinka_drop(&pool);
 }
 
-static bool has_counts(const struct zuphinka_effects *effects, uint64_t examined, uint64_t destroyed, uint64_t reclaimed, uint64_t filled) {
-  return effects->count == examined && effects->destroyed == destroyed && effects->reclaimed == reclaimed && effects->filled == filled;
+static bool has_counts(const struct zuphinka_effects *effects, uint64_t count, uint64_t freed) {
+  return effects->count == count && effects->freed == freed;
 }
 
-/* Maintenance is one call: it evicts, reclaims and fills, and ends with the first failure. */
-static void test_maintenance_in_one_call(void) {
+static void test_counts_of_calls(void) {
   struct zuphinka pool = open_driven(1, "maxTotal = 3\nminIdle = 2\ntestWhileIdle = true\n"
                                         "[abandoned]\nremoveAbandonedOnMaintenance = true\nremoveAbandonedTimeoutMillis = 0\n");
   struct zuphinka_effects effects;
   struct zuphinka_call call;
-  check(drive_call(&pool, ZUPHINKA_KIND_MAINTAIN, "mpmp", &effects) == ZUPHINKA_END_COMPLETE && has_counts(&effects, 0, 0, 0, 2));
-  check(drive_call(&pool, ZUPHINKA_KIND_BORROW, "a", &effects) == ZUPHINKA_END_LENT && has_counts(&effects, 0, 0, 0, 0));
-  check(drive_call(&pool, ZUPHINKA_KIND_MAINTAIN, "avpmp", &effects) == ZUPHINKA_END_COMPLETE && has_counts(&effects, 1, 0, 1, 1));
-  check(begin(&pool, ZUPHINKA_KIND_MAINTAIN, &call, &effects) == ZUPHINKA_STATUS_DONE && effects.action == ZUPHINKA_ACTION_ACTIVATE);
+  check(drive_call(&pool, ZUPHINKA_KIND_FILL, "mpmp", &effects) == ZUPHINKA_END_COMPLETE && has_counts(&effects, 2, 0));
+  check(drive_call(&pool, ZUPHINKA_KIND_BORROW, "a", &effects) == ZUPHINKA_END_LENT && has_counts(&effects, 0, 0));
+  check(drive_call(&pool, ZUPHINKA_KIND_EVICT, "avp", &effects) == ZUPHINKA_END_COMPLETE && has_counts(&effects, 1, 0));
+  check(drive_call(&pool, ZUPHINKA_KIND_RECLAIM, "", &effects) == ZUPHINKA_END_COMPLETE && has_counts(&effects, 1, 0));
+  check(begin(&pool, ZUPHINKA_KIND_EVICT, &call, &effects) == ZUPHINKA_STATUS_DONE && effects.action == ZUPHINKA_ACTION_ACTIVATE);
   check(advance(&pool, &call, ZUPHINKA_REPORT_FAILED, &effects) == ZUPHINKA_STATUS_DONE && effects.action == ZUPHINKA_ACTION_DESTROY);
-  check(has_counts(&effects, 1, 0, 0, 0));
-  for (const char *next = "avpm"; *next; next++) {
-    check(advance(&pool, &call, ZUPHINKA_REPORT_SUCCEEDED, &effects) == ZUPHINKA_STATUS_DONE && *next == "?grmavpds"[effects.action]);
-  }
-  check(advance(&pool, &call, ZUPHINKA_REPORT_FAILED, &effects) == ZUPHINKA_STATUS_DONE && effects.end == ZUPHINKA_END_MAKE_FAILED);
-  check(has_counts(&effects, 2, 1, 0, 0));
+  check(has_counts(&effects, 1, 0));
+  check(advance(&pool, &call, ZUPHINKA_REPORT_SUCCEEDED, &effects) == ZUPHINKA_STATUS_DONE && effects.action == ZUPHINKA_ACTION_DONE);
+  check(has_counts(&effects, 1, 1));
   zuphinka_drop(&pool);
 }
 
@@ -3679,7 +3687,7 @@ static const struct {
     TEST(unknown_kinds),
     TEST(refused_reports),
     TEST(refused_reports_without_room),
-    TEST(maintenance_in_one_call),
+    TEST(counts_of_calls),
 };
 
 static void run_test(const char *name) {

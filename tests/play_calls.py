@@ -21,7 +21,7 @@ from call_model import FITTING, Driven
 from playing import differing, run, tell
 from pool_model import settings_of
 
-SLOTS, SEEDS = 16, 56
+SLOTS, SEEDS = 16, 80
 # How many commands each seed has, at least.
 COMMANDS = 600
 # More objects than a call reclaims at a time.
@@ -40,7 +40,6 @@ ENDS = {
     "add": f"parked closed no-place destroyed {OF_FACTORY}",
     "fill": f"complete {OF_FACTORY}",
     "evict": "complete closed",
-    "maintain": f"complete closed {OF_FACTORY}",
     **dict.fromkeys(("reclaim", "clear", "close"), "complete"),
 }
 WANTED = {f"{kind} {end}" for kind, ends in ENDS.items() for end in [*ends.split(), "cancelled", "journal-full"]}
@@ -97,7 +96,7 @@ class Player:
         self.giving_up = dice.choice((0.0, 0.02, 0.1))
         self.most_held = 130 if most < 0 else 12
         # After how many commands the pool may be closed, and while which call works on an object: none if while one is idle.
-        self.open_for, self.closes_at = dice.uniform(0.3, 1.1) * COMMANDS, dice.choice(("add", "fill", "evict", "evict", "maintain", None))
+        self.open_for, self.closes_at = dice.uniform(0.3, 1.1) * COMMANDS, dice.choice(("add", "fill", "evict", "evict", None))
         self.clock, self.next_token = dice.choice((0, 1_000)), 100
         # The last call of each slot, the slots of those that go on, and of those for what their hosts do not hold; the tickets that were woken; and the
         # objects that hosts hold, with their tokens.
@@ -210,8 +209,8 @@ class Player:
 
     def maintain(self):
         """A call that is for the pool, and mostly one that leaves it as many objects."""
-        kinds = ["add", "fill", "evict", "reclaim", "maintain", "clear"]
-        kind = self.dice.choices(kinds, [3, 4, 5, 4, 4, 2])[0]
+        kinds = ["add", "fill", "evict", "reclaim", "clear"]
+        kind = self.dice.choices(kinds, [4, 6, 7, 5, 2])[0]
         if kind != "add" or len(self.model.tokens) < 4:
             self.begin_any(kind)
 

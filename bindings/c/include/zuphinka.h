@@ -252,8 +252,7 @@ enum zuphinka_kind {
   ZUPHINKA_KIND_EVICT = 8,      /* an eviction run */
   ZUPHINKA_KIND_RECLAIM = 9,    /* abandoned objects lose their places, for maintenance */
   ZUPHINKA_KIND_CLEAR = 10,     /* all idle objects are destroyed */
-  ZUPHINKA_KIND_CLOSE = 11,     /* the pool closes, and all idle objects are destroyed */
-  ZUPHINKA_KIND_MAINTAIN = 12   /* EVICT, then RECLAIM, then FILL; the first that does not end with ZUPHINKA_END_COMPLETE ends it */
+  ZUPHINKA_KIND_CLOSE = 11      /* the pool closes, and all idle objects are destroyed */
 };
 
 /* What begins a call. Set all fields: `struct zuphinka_start start = {.at = .., ..};` sets the others to 0. */
@@ -342,11 +341,8 @@ struct zuphinka_effects {
   uint64_t ticket;    /* the ticket of a call that waits, if has_ticket is true; else 0 */
   uint64_t until;     /* the time at which the wait of a borrow is over, in milliseconds, if has_until is true; else 0 */
   uint64_t wake;      /* the ticket of the call to wake first, if has_wake is true; else 0 */
-  uint64_t count;     /* how many objects a fill made, a reclaim took, an eviction run examined, a clear or a close destroyed so far; else 0.
-                         Of maintenance: how many its eviction run examined */
-  uint64_t destroyed; /* how many of these an eviction run, or that of maintenance, destroyed so far; else 0 */
-  uint64_t reclaimed; /* how many objects the reclaim of maintenance took so far; else 0 */
-  uint64_t filled;    /* how many objects the fill of maintenance made so far; else 0 */
+  uint64_t count;     /* how many objects a fill made, a reclaim took, an eviction run examined, a clear or a close took so far; else 0 */
+  uint64_t freed;     /* how many places of objects the call freed so far: of an eviction run the objects that it destroyed */
   uint32_t action;    /* enum zuphinka_action */
   uint32_t end;       /* enum zuphinka_end */
   bool has_ticket;    /* the call waits */
@@ -371,7 +367,7 @@ _Static_assert(sizeof(struct zuphinka_request) == 40 && sizeof(struct zuphinka_r
 _Static_assert(sizeof(struct zuphinka_setup) == 72, "zuphinka.h: another layout of structs");
 _Static_assert(sizeof(struct zuphinka_options) == 24 && sizeof(struct zuphinka_activity) == 24, "zuphinka.h: another layout of structs");
 _Static_assert(sizeof(struct zuphinka_start) == 32 && sizeof(struct zuphinka_call) == 24, "zuphinka.h: another layout of structs");
-_Static_assert(sizeof(struct zuphinka_event) == 24 && sizeof(struct zuphinka_effects) == 88, "zuphinka.h: another layout of structs");
+_Static_assert(sizeof(struct zuphinka_event) == 24 && sizeof(struct zuphinka_effects) == 72, "zuphinka.h: another layout of structs");
 #endif
 
 /* Returns the ZUPHINKA_VERSION_NUMBER of the library that the program is linked with. It needs no pool. */

@@ -170,7 +170,7 @@ static enum zuphinka_pool_error borrow(struct zuphinka_pool *pool, int64_t limit
   enum zuphinka_pool_error error = ZUPHINKA_POOL_ERROR_NONE;
   begin_run(pool, &run);
   lock(pool);
-  keep_room(pool, &run);
+  keep_room(pool, &run, false);
   if (!run_at_once(pool, &run)) {
     run.start.at += !pool->host.now && run.at.nanoseconds % (uint64_t)MILLISECOND > 0; /* its wait is as long as it is to be */
     error = drive(pool, &run);
@@ -264,7 +264,6 @@ static enum zuphinka_pool_error call(struct zuphinka_pool *pool, uint32_t kind, 
   struct run run = {.start = {.kind = kind}, .limit = NEVER};
   begin_run(pool, &run);
   lock(pool);
-  keep_room(pool, &run);
   enum zuphinka_pool_error error = drive(pool, &run);
   store_cut(pool, &run);
   unlock(pool);
@@ -287,7 +286,7 @@ enum zuphinka_pool_error zuphinka_pool_fill(struct zuphinka_pool *pool, uint64_t
 enum zuphinka_pool_error zuphinka_pool_evict(struct zuphinka_pool *pool, struct zuphinka_pool_eviction *eviction) {
   struct zuphinka_effects last;
   enum zuphinka_pool_error error = call(pool, ZUPHINKA_KIND_EVICT, &last);
-  if (eviction) *eviction = (struct zuphinka_pool_eviction){last.count, last.destroyed};
+  if (eviction) *eviction = (struct zuphinka_pool_eviction){last.count, last.freed};
   return error;
 }
 
@@ -311,10 +310,24 @@ static void report_leaks(struct zuphinka_pool *pool) {
 }
 
 enum zuphinka_pool_error zuphinka_pool_maintain(struct zuphinka_pool *pool, struct zuphinka_pool_maintenance *done) {
-  struct zuphinka_effects last;
+  static const uint32_t kinds[] = {ZUPHINKA_KIND_EVICT, ZUPHINKA_KIND_RECLAIM, ZUPHINKA_KIND_FILL};
+  struct zuphinka_effects last[3] = {{.count = 0}};
+  struct run run = {.limit = NEVER};
+  enum zuphinka_pool_error error = ZUPHINKA_POOL_ERROR_NONE;
   report_leaks(pool);
-  enum zuphinka_pool_error error = call(pool, ZUPHINKA_KIND_MAINTAIN, &last);
-  if (done) *done = (struct zuphinka_pool_maintenance){{last.count, last.destroyed}, last.reclaimed, last.filled};
+  begin_run(pool, &run);
+  lock(pool);
+  keep_room(pool, &run, true);
+  for (int part = 0; part < 3 && !error; part++) {
+    run.start.kind = kinds[part];
+    run.start.at = run.at.milliseconds;
+    run.next = (struct zuphinka_effects){.end = ZUPHINKA_END_OUT_OF_MEMORY};
+    error = drive(pool, &run);
+    last[part] = run.next;
+  }
+  store_cut(pool, &run);
+  unlock(pool);
+  if (done) *done = (struct zuphinka_pool_maintenance){{last[0].count, last[0].freed}, last[1].count, last[2].count};
   return error;
 }
 

@@ -95,10 +95,8 @@ static enum zuphinka_pool_error cut_and_store(struct zuphinka_pool *pool, zuphin
 
 /* Stores the journal in time for a borrow, or earlier for maintenance, which also tries a segment again that was not stored; with the lock held
  * before and after, and not meanwhile. The call's first step is then taken at the time after it. */
-static void keep_room(struct zuphinka_pool *pool, struct run *run) {
-  uint32_t kind = run->start.kind;
-  bool maintains = kind == ZUPHINKA_KIND_MAINTAIN;
-  if (pool->journal != ZUPHINKA_POOL_JOURNAL_SEGMENTS || pool->cutter || !(maintains || kind == ZUPHINKA_KIND_BORROW)) return;
+static void keep_room(struct zuphinka_pool *pool, struct run *run, bool maintains) {
+  if (pool->journal != ZUPHINKA_POOL_JOURNAL_SEGMENTS || pool->cutter) return;
   bool is_due = maintains ? pool->unstored.text || zuphinka_is_low(&pool->core, 2 * pool->low) : zuphinka_is_low(&pool->core, pool->low);
   if (!is_due) return;
   cut_and_store(pool, pool->host.store, pool->host.context, NULL, NULL);
@@ -109,8 +107,8 @@ static void keep_room(struct zuphinka_pool *pool, struct run *run) {
 
 /* Returns whether the pool is closed, and refuses a call of this kind for that, with the lock held. */
 static bool is_refused(struct zuphinka_pool *pool, uint32_t kind) {
-  bool evicts = kind == ZUPHINKA_KIND_EVICT || kind == ZUPHINKA_KIND_MAINTAIN;
-  return (kind == ZUPHINKA_KIND_BORROW || kind == ZUPHINKA_KIND_ADD || evicts) && look(pool).state.is_closed;
+  bool is_for_open_pools = kind == ZUPHINKA_KIND_BORROW || kind == ZUPHINKA_KIND_ADD || kind == ZUPHINKA_KIND_EVICT;
+  return is_for_open_pools && look(pool).state.is_closed;
 }
 
 /* Returns until when a call waits for a cut: a borrow as long as for an object, and so not at all if the settings say that none waits. */

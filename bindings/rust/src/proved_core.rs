@@ -122,7 +122,7 @@ impl Call {
 
     /// Returns how many objects an eviction run destroyed so far.
     pub fn destroyed(&self) -> u64 {
-        self.effects.destroyed
+        self.effects.freed
     }
 }
 

@@ -1,73 +1,261 @@
-//! A call of any kind: its next action, and what is reported to it.
-ghost use Rattle.std.specs.Prelude.{◌≡◌, List, true, false};
-ghost use Rattle.pool_calls.specs.Operations.{HasCome, ComesOn, Proceeds, IsRight, fits, step_at, lacks_room, is_making, is_waiting, comes_to_wait, began_of};
-ghost use Rattle.pool_calls.specs.Turns.{Turn, step_of, asks_make, asks_room, asks_wait, is_full};
+//! A call of any kind: what its host does next, and what follows from what the host reports.
+ghost use Rattle.std.specs.Prelude.{◌≡◌, ◌<◌, ◌≤◌, true, false, List, [], Some, IfNone};
+ghost use Rattle.pool_calls.specs.declared.action.Event.TheVariants as events;
+ghost use Rattle.pool_calls.specs.Left.{reports_left, stage_left};
+ghost use Rattle.pool_calls.specs.Progress.{Takes};
+ghost use Rattle.pool_calls.specs.Rules as rules;
+ghost use Rattle.pool_calls.specs.Rules.{work_left, step_for};
+ghost use Rattle.pool_calls.specs.Steps.{is_borrow};
+ghost use Rattle.pool_calls.specs.Tallies.{tally_after};
+ghost use Rattle.pool_calls.specs.Turns.{Turn, step_of, asks_make, asks_room, asks_wait, is_full, IsFirst};
 
-use crate::action::{Action, Event};
-use crate::adding::AddCall;
-use crate::borrowing::BorrowCall;
-use crate::clearing::ClearCall;
-use crate::evicting::EvictCall;
-use crate::filling::FillCall;
-use crate::invalidating::InvalidateCall;
-use crate::maintaining::MaintainCall;
-use crate::reclaiming::ReclaimCall;
-use crate::returning::ReturnCall;
-use crate::touching::TouchCall;
+mod after;
 
-/// A call of any kind.
+use crate::action::{Action, End, Event};
+use crate::answers::works;
+use crate::kind::Kind;
+use crate::plan::Plan;
+use crate::stage::{Place, Request, Stage};
+use crate::tally::Tally;
+use crate::work::Task;
+use pool_journal::{Answer, Input, Outcome, When};
+
+/// A call: what its host does next, and what follows from what the host reports.
+///
+/// A host takes the action, without a lock if it is the factory's, and reports what came of it. It may give the call up
+/// at any time, once: then the call ends after three more reports at most.
 #[derive(Clone, Copy)]
-pub enum Operation {
-    Borrow(BorrowCall),
-    Return(ReturnCall),
-    /// An invalidation, or a detachment.
-    Invalidate(InvalidateCall),
-    Touch(TouchCall),
-    Add(AddCall),
-    Fill(FillCall),
-    Evict(EvictCall),
-    Reclaim(ReclaimCall),
-    /// A clear, or a close.
-    Clear(ClearCall),
-    Maintain(MaintainCall),
+pub struct Operation {
+    kind: Kind,
+    plan: Plan,
+    given_up: bool,
+    tally: Tally,
+    place: Place,
+    ghost few_left: { given_up ≡ true → reports_left place ≤ 3 },
+    ghost only_borrows_wait: { rules.is_waiting place ≡ true → is_borrow kind ≡ true },
 }
 
 impl Operation {
+    ghost use Rattle.pool_calls.specs.Operations.{HasCome, ComesOn, IsRight, Proceeds, began_of, comes_to_wait, fits, is_making, is_waiting, lacks_room, step_at};
+
+    /// Returns a call of this kind.
+    #[tactic(auto, unfolding(crate::specs::Operations::HasCome))]
+    pub fn new(plan: Plan, kind: Kind) -> Operation
+        ensures given { (result.plan ≡ plan) × (result.kind ≡ kind) × (result.given_up ≡ false) }
+        ensures come { HasCome result [] }
+        ensures first { step_at result ≡ Some (rules.first_step plan kind) }
+    {
+        let request = if kind.is_borrow() && plan.remove_abandoned_on_borrow {
+            Request::Begin
+        } else {
+            Request::Ask
+        };
+        Operation {
+            kind,
+            plan,
+            given_up: false,
+            tally: Tally {
+                objects: 0,
+                freed: 0,
+            },
+            place: Place::Asks(request),
+        }
+    }
+
+    /// Returns the kind of call.
+    pub fn kind(&self) -> Kind
+        ensures { result ≡ self.now.kind }
+    {
+        self.kind
+    }
+
+    /// Returns what the call has come to.
+    pub fn tally(&self) -> Tally
+        ensures { result ≡ self.now.tally }
+    {
+        self.tally
+    }
+
     /// Returns the time at which a borrow began, in milliseconds; `None` of another call.
     pub fn began(&self) -> Option<u64>
-        ensures { result ≡ began_of self.now }
+        ensures began { result ≡ began_of self.now }
+        ensures waits { IfNone result (is_waiting self.now ≡ false) }
     {
-        match self {
-            Operation::Borrow(call) => Some(call.began()),
+        match self.kind {
+            Kind::Borrow(began) => Some(began),
             _ => None,
         }
     }
 
+    // The step for a request.
+    fn step_for(&self, request: Request) -> Input
+        ensures { result ≡ step_for self.now.kind request }
+    {
+        match request {
+            Request::Begin => Input::Reclaim { on: When::Borrow },
+            Request::Ask => self.kind.ask(),
+            Request::Next(_) => self.kind.next(),
+        }
+    }
+
     /// Returns what the host does next.
+    #[tactic(auto, unfolding(crate::specs::Operations::HasCome, crate::specs::Operations::IsRight))]
     #[inline(always)]
     pub fn action(&self) -> Action
-        ensures right { (turns : List Turn) → HasCome self.now turns
-            → IsRight self.now turns result }
+        ensures right { (turns : List Turn) → HasCome self.now turns → IsRight self.now turns result }
         ensures step { step_of result ≡ step_at self.now }
+        ensures works { IsFirst (work_left self.now.plan self.now.kind self.now.place) result }
         ensures room { asks_room result ≡ lacks_room self.now }
         ensures wait { asks_wait result ≡ is_waiting self.now }
         ensures make { asks_make result ≡ is_making self.now }
     {
-        match self {
-            Operation::Borrow(call) => call.action(),
-            Operation::Return(call) => call.action(),
-            Operation::Invalidate(call) => call.action(),
-            Operation::Touch(call) => call.action(),
-            Operation::Add(call) => call.action(),
-            Operation::Fill(call) => call.action(),
-            Operation::Evict(call) => call.action(),
-            Operation::Reclaim(call) => call.action(),
-            Operation::Clear(call) => call.action(),
-            Operation::Maintain(call) => call.action(),
+        match self.place {
+            Place::Asks(request) => Action::Step(self.step_for(request)),
+            Place::LacksRoom(_) => Action::MakeRoom,
+            Place::Waits => Action::Wait,
+            Place::Works(Task::Make, object) => Action::Make(object.id),
+            Place::Works(Task::TestNew | Task::Test, object) => Action::Validate(object.id),
+            Place::Works(Task::Activate, object) => Action::Activate(object.id),
+            Place::Works(Task::Passivate, object) => Action::Passivate(object.id),
+            Place::Reports(outcome, object) => {
+                Action::Step(self.kind.report(object.id, outcome))
+            }
+            Place::Destroys(_, object) => Action::Destroy(object.id),
+            Place::Frees(_, object) => Action::Step(Input::Destroyed { id: object.id }),
+            Place::DestroysGone(id) => Action::Destroy(id),
+            Place::Ended(end) => Action::Done(end),
+        }
+    }
+
+    // The counts after an event.
+    #[inline(always)]
+    fn tally_after(&self, event: Event) -> Tally
+        ensures { result ≡ tally_after self.now.kind event self.now.tally }
+    {
+        match event {
+            Event::Answered(answer) => self.tally.with(self.kind, answer),
+            _ => self.tally,
+        }
+    }
+
+    // Goes on to this place by an event.
+    #[inline(always)]
+    #[tactic(auto, unfolding(crate::specs::Operations::Proceeds))]
+    fn move_to(&mut self, event: Event, place: Place)
+        requires fits { fits self.old event ≡ true }
+        requires takes { Takes self.old.plan self.old.kind self.old.given_up event self.old.place
+            place }
+        ensures comes { ComesOn event self.old self.new }
+        ensures proceeds { Proceeds event self.old self.new }
+        ensures room { lacks_room self.new ≡ is_full event }
+        ensures wait { is_waiting self.new ≡ comes_to_wait event self.old }
+    {
+        self.tally = self.tally_after(event);
+        self.given_up = self.given_up || matches!(event, Event::Cancelled);
+        self.place = place;
+    }
+
+    // Goes on to this stage by an answer.
+    #[inline(always)]
+    fn move_by(&mut self, answer: Answer, stage: Stage)
+        requires step { rules.has_step self.old.place ≡ true }
+        requires due { stage ≡ rules.stage_after self.old.kind self.old.place answer }
+        requires awake { rules.comes_to_wait self.old.kind (events.Answered answer) self.old.place
+            ≡ false }
+        requires left { self.old.given_up ≡ true → stage_left stage < reports_left self.old.place }
+        ensures comes { ComesOn (events.Answered answer) self.old self.new }
+        ensures proceeds { Proceeds (events.Answered answer) self.old self.new }
+        ensures room { lacks_room self.new ≡ false }
+        ensures wait { is_waiting self.new ≡ false }
+    {
+        let place = self.enter_by(answer, stage);
+        self.move_to(Event::Answered(answer), place);
+    }
+
+    // Reports a usual answer to a borrow or a return. Returns whether it is one; otherwise nothing
+    // changes.
+    #[inline(always)]
+    fn tell_usual_answer(&mut self, answer: Answer) -> bool
+        ensures comes { result ≡ true → ComesOn (events.Answered answer) self.old self.new }
+        ensures proceeds { result ≡ true → Proceeds (events.Answered answer) self.old self.new }
+        ensures room { result ≡ true → lacks_room self.new ≡ false }
+        ensures wait { result ≡ true
+            → is_waiting self.new ≡ comes_to_wait (events.Answered answer) self.old }
+        ensures fits { result ≡ true → fits self.old (events.Answered answer) ≡ true }
+        ensures unusual { result ≡ false → self.new ≡ self.old }
+    {
+        match self.place {
+            Place::Asks(Request::Ask) => match (self.kind, answer) {
+                (Kind::Borrow(_), Answer::Take(id)) | (Kind::Return(id), Answer::Check) => {
+                    self.move_by(answer, works(id, false, 0));
+                    true
+                }
+                _ => false,
+            },
+            Place::Reports(Outcome::Good, object) => match (self.kind, answer) {
+                (Kind::Borrow(_), Answer::Lent) => {
+                    self.move_by(answer, Stage::Ends(End::Lent(object.id)));
+                    true
+                }
+                (Kind::Return(_), Answer::Parked) => {
+                    self.move_by(answer, Stage::Ends(End::Parked));
+                    true
+                }
+                _ => false,
+            },
+            _ => false,
+        }
+    }
+
+    // Reports a success of the factory. Returns whether it fits.
+    #[inline(always)]
+    fn tell_success(&mut self) -> bool
+        ensures comes { result ≡ true → ComesOn events.Succeeded self.old self.new }
+        ensures proceeds { result ≡ true → Proceeds events.Succeeded self.old self.new }
+        ensures room { result ≡ true → lacks_room self.new ≡ false }
+        ensures wait { result ≡ true → is_waiting self.new ≡ false }
+        ensures fits { result ≡ fits self.old events.Succeeded }
+        ensures unfit { result ≡ false → self.new ≡ self.old }
+    {
+        match self.place {
+            Place::Works(task, object) => {
+                let place = self.after_task(task, object);
+                self.move_to(Event::Succeeded, place);
+                true
+            }
+            Place::Destroys(outcome, object) => {
+                self.move_to(Event::Succeeded, Place::Frees(outcome, object));
+                true
+            }
+            Place::DestroysGone(_) => {
+                self.move_to(Event::Succeeded, Place::Ended(End::Gone));
+                true
+            }
+            _ => false,
+        }
+    }
+
+    // Reports an event of any kind. Returns whether it fits.
+    #[inline(never)]
+    fn tell_any(&mut self, event: Event) -> bool
+        ensures comes { result ≡ true → ComesOn event self.old self.new }
+        ensures proceeds { result ≡ true → Proceeds event self.old self.new }
+        ensures room { result ≡ true → lacks_room self.new ≡ is_full event }
+        ensures wait { result ≡ true → is_waiting self.new ≡ comes_to_wait event self.old }
+        ensures fits { result ≡ fits self.old event }
+        ensures unfit { result ≡ false → self.new ≡ self.old }
+    {
+        match self.after(event) {
+            Some(place) => {
+                self.move_to(event, place);
+                true
+            }
+            None => false,
         }
     }
 
     /// Reports an event. Returns whether it fits what the host was asked to do. Otherwise nothing changes.
+    #[inline(always)]
     pub fn tell(&mut self, event: Event) -> bool
         ensures comes { result ≡ true → ComesOn event self.old self.new }
         ensures proceeds { result ≡ true → Proceeds event self.old self.new }
@@ -76,17 +264,16 @@ impl Operation {
         ensures fits { result ≡ fits self.old event }
         ensures unfit { result ≡ false → self.new ≡ self.old }
     {
-        match self {
-            Operation::Borrow(call) => call.tell(event),
-            Operation::Return(call) => call.tell(event),
-            Operation::Invalidate(call) => call.tell(event),
-            Operation::Touch(call) => call.tell(event),
-            Operation::Add(call) => call.tell(event),
-            Operation::Fill(call) => call.tell(event),
-            Operation::Evict(call) => call.tell(event),
-            Operation::Reclaim(call) => call.tell(event),
-            Operation::Clear(call) => call.tell(event),
-            Operation::Maintain(call) => call.tell(event),
+        match event {
+            Event::Answered(answer) => {
+                if self.tell_usual_answer(answer) {
+                    true
+                } else {
+                    self.tell_any(Event::Answered(answer))
+                }
+            }
+            Event::Succeeded => self.tell_success(),
+            other => self.tell_any(other),
         }
     }
 }

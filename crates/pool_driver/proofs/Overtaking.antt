@@ -6,14 +6,14 @@ use Rattle.std.proofs.lemmas.Bool.{both_ways, eq-eqb}
 use Rattle.pool_journal.specs.declared.answer.Answer.{Answer}
 use Rattle.pool_journal.specs.declared.input.Input.{Input}
 use Rattle.pool_journal.specs.declared.input.Input.TheVariants as inputs
-use Rattle.pool_calls.specs.BorrowRules as borrows
+use Rattle.pool_calls.specs.Rules as rules
 use Rattle.pool_calls.specs.Operations.{is_waiting, step_at}
 use Rattle.pool_calls.specs.Turns.{Turn}
 use Rattle.pool_calls.specs.Waiting.{Queue, Waiter, can_pass, is_in, is_limited, may_lend, newest, takes_from_waiters, without}
-use Rattle.pool_calls.specs.declared.borrowing.BorrowState.{BorrowState}
-use Rattle.pool_calls.specs.declared.borrowing.BorrowState.TheVariants as states
+use Rattle.pool_calls.specs.declared.kind.Kind.{Kind}
+use Rattle.pool_calls.specs.declared.stage.Place.{Place}
+use Rattle.pool_calls.specs.declared.stage.Place.TheVariants as places
 use Rattle.pool_calls.specs.declared.operation.Operation.{Operation}
-use Rattle.pool_calls.specs.declared.operation.Operation.TheVariants as operations
 use Rattle.pool_driver.specs.declared.call.Call.{Call}
 use Rattle.pool_driver.specs.Driving.{DrivenModel, Forgets, IsAvailable, Takes, available_in, handed, may_come_in, passed}
 use Rattle.pool_driver.specs.Overtaking.{CountsOvertakes, Course, Hears, Passes, Rests, finds, is_borrow, is_found, is_newcomer, others}
@@ -72,30 +72,12 @@ no_ticket (Some t) none = absurd (cc none)
 never : (b : Bool) (A : Type 0) → b ≡ false → b ≡ true → A
 never b A at_false at_true = absurd (both_ways b at_false at_true)
 
-borrow_rests : (began : ℕ) (s : BorrowState) → borrows.is_waiting s ≡ true → is_some (borrows.step_at began s) ≡ false
-borrow_rests began states.Waits is = refl
-borrow_rests began (states.Steps first) is = absurd (cc is)
-borrow_rests began (states.LacksRoom first) is = absurd (cc is)
-borrow_rests began (states.Makes i) is = absurd (cc is)
-borrow_rests began (states.Tests i) is = absurd (cc is)
-borrow_rests began (states.Activates i new) is = absurd (cc is)
-borrow_rests began (states.Validates i new) is = absurd (cc is)
-borrow_rests began (states.Reports i new o) is = absurd (cc is)
-borrow_rests began (states.Destroys i new o) is = absurd (cc is)
-borrow_rests began (states.Frees i new o) is = absurd (cc is)
-borrow_rests began (states.Ended e) is = absurd (cc is)
+place_rests : (k : Kind) (place : Place) → rules.is_waiting place ≡ true → is_some (rules.step_at k place) ≡ false
+place_rests k places.Waits is = refl
+place_rests k _ is = absurd (cc is)
 
 call_rests : (o : Operation) → is_waiting o ≡ true → is_some (step_at o) ≡ false
-call_rests (operations.Borrow c) is = borrow_rests c.began c.state is
-call_rests (operations.Return c) is = absurd (cc is)
-call_rests (operations.Invalidate c) is = absurd (cc is)
-call_rests (operations.Touch c) is = absurd (cc is)
-call_rests (operations.Add c) is = absurd (cc is)
-call_rests (operations.Fill c) is = absurd (cc is)
-call_rests (operations.Evict c) is = absurd (cc is)
-call_rests (operations.Reclaim c) is = absurd (cc is)
-call_rests (operations.Clear c) is = absurd (cc is)
-call_rests (operations.Maintain c) is = absurd (cc is)
+call_rests o is = place_rests o.kind o.place is
 
 pub asking_waits : (o : Operation) (A : Type 0) → is_some (step_at o) ≡ true → is_waiting o ≡ true → A
 asking_waits o A asks waits = never (is_some (step_at o)) A (call_rests o waits) asks

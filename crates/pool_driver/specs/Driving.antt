@@ -30,7 +30,7 @@ use Rattle.pool_calls.specs.declared.action.StepFailure.{StepFailure}
 use Rattle.pool_calls.specs.declared.action.StepFailure.TheVariants as failures
 use Rattle.pool_calls.specs.declared.plan.Plan.{Plan}
 use Rattle.pool_calls.specs.declared.operation.Operation.{Operation}
-use Rattle.pool_calls.specs.declared.operation.Operation.TheVariants as operations
+use Rattle.pool_calls.specs.Steps.{destroys}
 use Rattle.pool_driver.specs.Queueing.{Queues}
 use Rattle.pool_driver.specs.declared.call.Call.{Call}
 use Rattle.pool_driver.specs.declared.hooks.Hooks.{Hooks}
@@ -83,13 +83,7 @@ pub record Begins (p : Plan) (c : Call) : Type 0 where
 
 -- the holder keeps the object of the call
 abbrev pub detaches : Operation → Bool
-detaches (operations.Invalidate c) = c.detaches
-detaches _ = false
-
--- the call is maintenance, which begins as an eviction run does
-abbrev pub is_maintenance : Operation → Bool
-is_maintenance (operations.Maintain c) = true
-is_maintenance _ = false
+detaches op = not (destroys op.kind)
 
 -- the settings stay, what the calls have to know, and whether the journal is dropped
 pub record KeepsRest (old new : DrivenModel) : Type 0 where

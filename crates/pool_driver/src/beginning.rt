@@ -4,25 +4,21 @@ ghost use Rattle.std.specs.Option.{is_some};
 ghost use Rattle.pool_journal.specs.declared.input.Input.TheVariants as inputs;
 ghost use Rattle.pool_journal.specs.declared.input.When.TheVariants as times;
 ghost use Rattle.pool_calls.specs.Operations.{began_of, step_at};
-ghost use Rattle.pool_driver.specs.Driving.{Begins, detaches, is_maintenance};
+ghost use Rattle.pool_driver.specs.Driving.{Begins, detaches};
 
 use crate::call::Call;
 use crate::pool::DrivenPool;
-use pool_calls::{
-    AddCall, BorrowCall, ClearCall, EvictCall, FillCall, InvalidateCall, MaintainCall, Operation,
-    ReclaimCall, ReturnCall, TouchCall,
-};
+use pool_calls::{Kind, Operation};
 
 impl DrivenPool {
     /// Returns a borrow that begins at time `at` (milliseconds). If a greater time was passed in before, it begins then.
-    #[tactic(auto, using(crate::proofs::FirstSteps::borrow_steps))]
     pub fn borrow(&self, at: u64) -> Call
         ensures begins { Begins self.now.plan result }
         ensures began { began_of result.operation ≡ Some (max at self.now.last) }
         ensures steps { is_some (step_at result.operation) ≡ true }
     {
         let began = at.max(self.last);
-        Call::new(Operation::Borrow(BorrowCall::new(self.plan, began)), 0)
+        Call::new(Operation::new(self.plan, Kind::Borrow(began)), 0)
     }
 
     /// Returns a return of the object with this id and token.
@@ -31,7 +27,7 @@ impl DrivenPool {
         ensures first { step_at result.operation ≡ Some (inputs.GiveBack id) }
         ensures token { result.token ≡ token }
     {
-        Call::new(Operation::Return(ReturnCall::new(self.plan, id)), token)
+        Call::new(Operation::new(self.plan, Kind::Return(id)), token)
     }
 
     /// Returns an invalidation of the object with this id and token, which is destroyed.
@@ -41,7 +37,7 @@ impl DrivenPool {
         ensures first { step_at result.operation ≡ Some (inputs.Invalidate id) }
         ensures token { result.token ≡ token }
     {
-        Call::new(Operation::Invalidate(InvalidateCall::new(id)), token)
+        Call::new(Operation::new(self.plan, Kind::Invalidate(id)), token)
     }
 
     /// Returns a detachment of the object with this id and token, which the caller keeps.
@@ -51,7 +47,7 @@ impl DrivenPool {
         ensures first { step_at result.operation ≡ Some (inputs.Invalidate id) }
         ensures token { result.token ≡ token }
     {
-        Call::new(Operation::Invalidate(InvalidateCall::detach(id)), token)
+        Call::new(Operation::new(self.plan, Kind::Detach(id)), token)
     }
 
     /// Returns a note that the object with this id is used.
@@ -59,7 +55,7 @@ impl DrivenPool {
         ensures begins { Begins self.now.plan result }
         ensures first { step_at result.operation ≡ Some (inputs.Use id) }
     {
-        Call::new(Operation::Touch(TouchCall::new(id)), 0)
+        Call::new(Operation::new(self.plan, Kind::Touch(id)), 0)
     }
 
     /// Returns an addition of one object.
@@ -67,7 +63,7 @@ impl DrivenPool {
         ensures begins { Begins self.now.plan result }
         ensures first { step_at result.operation ≡ Some inputs.Add }
     {
-        Call::new(Operation::Add(AddCall::new(self.plan)), 0)
+        Call::new(Operation::new(self.plan, Kind::Add), 0)
     }
 
     /// Returns a fill up to the least number of idle objects.
@@ -75,16 +71,15 @@ impl DrivenPool {
         ensures begins { Begins self.now.plan result }
         ensures first { step_at result.operation ≡ Some inputs.Fill }
     {
-        Call::new(Operation::Fill(FillCall::new(self.plan)), 0)
+        Call::new(Operation::new(self.plan, Kind::Fill), 0)
     }
 
     /// Returns an eviction run.
     pub fn evict(&self) -> Call
-        ensures evicts { is_maintenance result.operation ≡ false }
         ensures begins { Begins self.now.plan result }
         ensures first { step_at result.operation ≡ Some inputs.Evict }
     {
-        Call::new(Operation::Evict(EvictCall::new(self.plan)), 0)
+        Call::new(Operation::new(self.plan, Kind::Evict), 0)
     }
 
     /// Returns a removal of abandoned objects, for maintenance.
@@ -92,7 +87,7 @@ impl DrivenPool {
         ensures begins { Begins self.now.plan result }
         ensures first { step_at result.operation ≡ Some (inputs.Reclaim times.Maintain) }
     {
-        Call::new(Operation::Reclaim(ReclaimCall::new()), 0)
+        Call::new(Operation::new(self.plan, Kind::Reclaim), 0)
     }
 
     /// Returns a clear: the idle objects are destroyed.
@@ -100,7 +95,7 @@ impl DrivenPool {
         ensures begins { Begins self.now.plan result }
         ensures first { step_at result.operation ≡ Some inputs.Clear }
     {
-        Call::new(Operation::Clear(ClearCall::clear()), 0)
+        Call::new(Operation::new(self.plan, Kind::Clear), 0)
     }
 
     /// Returns a close: the pool lends no more, and the idle objects are destroyed.
@@ -108,16 +103,6 @@ impl DrivenPool {
         ensures begins { Begins self.now.plan result }
         ensures first { step_at result.operation ≡ Some inputs.Close }
     {
-        Call::new(Operation::Clear(ClearCall::close()), 0)
-    }
-
-    /// Returns maintenance: an eviction run, then a removal of abandoned objects, then a fill up to the least number of
-    /// idle objects. The first of them that fails ends it.
-    pub fn maintain(&self) -> Call
-        ensures maintains { is_maintenance result.operation ≡ true }
-        ensures begins { Begins self.now.plan result }
-        ensures first { step_at result.operation ≡ Some inputs.Evict }
-    {
-        Call::new(Operation::Maintain(MaintainCall::new(self.plan)), 0)
+        Call::new(Operation::new(self.plan, Kind::Close), 0)
     }
 }

@@ -1,5 +1,5 @@
 -- In each round an object is lent or the borrow is refused.
-use Rattle.std.proofs.Common.{◌≡◌, ℕ, zero, suc, ◌+◌, ◌-◌, ◌*◌, ◌<◌, ◌≤◌, ◌==◌, Bool, true, false, cond, if◌then◌else◌, List, [], ◌∷◌, ◌++◌, length, Some, Result, Ok, Err, slice_get, take, add-one, refl, sym, ap, ◌∙◌, subst, arith}
+use Rattle.std.proofs.Common.{◌≡◌, ℕ, zero, suc, ◌+◌, ◌*◌, ◌<◌, ◌≤◌, ◌==◌, Bool, true, false, cond, if◌then◌else◌, List, [], ◌∷◌, ◌++◌, length, Some, Result, Ok, Err, slice_get, take, add-one, refl, sym, ap, ◌∙◌, subst, arith}
 use Rattle.std.specs.Prelude.{IfOk, sum, slice_index}
 use Rattle.std.proofs.lemmas.Bool.Decides.{nat_tests}
 use Rattle.std.proofs.lemmas.List.Sums.{sum_by-cons}
@@ -7,27 +7,34 @@ use Rattle.std.proofs.Math.Nat.{zero-mul, suc-mul}
 use Rattle.pool_journal.specs.Carrying.{is_good}
 use Rattle.pool_journal.specs.Entries.{is_lent_answer}
 use Rattle.pool_journal.specs.declared.entry.Entry.{Entry}
-use Rattle.pool_journal.specs.declared.input.Input.{Input}
 use Rattle.pool_journal.specs.declared.input.Input.TheVariants as inputs
 use Rattle.pool_journal.specs.declared.input.Outcome.{Outcome}
 use Rattle.pool_journal.specs.declared.input.Outcome.TheVariants as outcomes
 use Rattle.pool_journal.specs.declared.answer.Answer.{Answer}
 use Rattle.pool_journal.specs.declared.answer.Answer.TheVariants as answers
-use Rattle.pool_journal.specs.declared.answer.Cause.{Cause}
 use Rattle.pool_journal.specs.declared.answer.Cause.TheVariants as causes
 use Rattle.pool_settings.specs.declared.settings.Settings.{Settings}
 use Rattle.pool_stats.specs.Answers.{count_answers}
 use Rattle.pool_core.specs.Legal.{IsLegal}
 use Rattle.pool_history.specs.CellInvariant.{entries_with_number, AllBelow}
-use Rattle.pool_shared.specs.Traces.{turn_of, run_stages, AllExpected}
-use Rattle.pool_calls.specs.BorrowRules as borrows
+use Rattle.pool_calls.specs.declared.action.End.TheVariants as ends
+use Rattle.pool_calls.specs.declared.kind.Kind.TheVariants as kinds
+use Rattle.pool_calls.specs.declared.stage.Object.{Object}
+use Rattle.pool_calls.specs.declared.stage.Request.{Request}
+use Rattle.pool_calls.specs.declared.stage.Request.TheVariants as requests
+use Rattle.pool_calls.specs.declared.stage.Stage.{Stage}
+use Rattle.pool_calls.specs.declared.stage.Stage.TheVariants as stages
+use Rattle.pool_calls.specs.Rules.{next, step_for, IsExpected}
+use Rattle.pool_calls.specs.Steps.{outcome_of}
+use Rattle.pool_calls.specs.Table.{go_through, end_by, after_reclaiming, after_removing, after_borrowing, after_lending, after_object, after_freeing, after_failure, after_report}
 use Rattle.pool_shared.specs.Plans.{plan_of}
-use Rattle.pool_calls.specs.ReturnRules as returns
-use Rattle.pool_calls.specs.ClearRules as clears
+use Rattle.pool_shared.specs.Stages.{asks}
+use Rattle.pool_shared.specs.Traces.{turn_of, run_stages, AllExpected}
 use Rattle.pool_engines.specs.declared.load_fault.LoadFault.{LoadFault}
 use Rattle.pool_load.specs.declared.loading.LoadReport.{LoadReport}
-use Rattle.pool_load.specs.Rounds.{IsRefusal, Round, lends, refuses, IsWorked}
+use Rattle.pool_load.specs.Rounds.{IsRefusal, borrows_from, borrowed_to, Round, lends, refuses, IsWorked}
 use Rattle.pool_load.specs.Loads.{IsLoad}
+use Rattle.pool_load.proofs.Inputs.{AllTest, tests_inputs}
 use Rattle.pool_load.proofs.Replies.{is_ready, lends_ready}
 
 -- 1 for an answer that lends
@@ -78,140 +85,135 @@ not_lent : (e : Entry) → Ordered e → is_ready e.input ≡ false → lent_by 
 not_lent e ordered other = ap (λ b. cond b 1 0) (ordered other)
 
 -- 1 at the stage of a borrow that has lent an object
-abbrev lent_at : borrows.Stage → ℕ
-lent_at (borrows.lent i) = 1
+abbrev lent_at : Stage → ℕ
+lent_at (stages.Ends (ends.Lent i)) = 1
 lent_at _ = 0
 
-more_not : (n : ℕ) → lent_at (borrows.remove_more n) ≡ 0
-more_not zero = refl
-more_not (suc n) = refl
+more_not : (began n : ℕ) → lent_at (go_through (kinds.Borrow began) n) ≡ 0
+more_not began zero = refl
+more_not began (suc n) = refl
 
-beginning_not : (a : Answer) → lent_at (borrows.after_beginning a) ≡ 0
-beginning_not (answers.Count n) = more_not n
-beginning_not _ = refl
+beginning_not : (began : ℕ) (a : Answer) → lent_at (after_reclaiming (kinds.Borrow began) a) ≡ 0
+beginning_not began (answers.Count n) = more_not began n
+beginning_not began _ = refl
 
-removing_not : (n : ℕ) (a : Answer) → lent_at (borrows.after_removing n a) ≡ 0
-removing_not n (answers.Reclaimed i) = more_not (n - 1)
-removing_not n answers.Nothing = refl
-removing_not n _ = refl
+removing_not : (began left : ℕ) (a : Answer) → lent_at (after_removing (kinds.Borrow began) left a) ≡ 0
+removing_not began left (answers.Reclaimed i) = more_not began left
+removing_not began left answers.Nothing = refl
+removing_not began left _ = refl
 
-refused_not : (c : Cause) → lent_at (borrows.after_refusal c) ≡ 0
-refused_not causes.Closed = refl
-refused_not _ = refl
-
-asking_not : (a : Answer) → lent_at (borrows.after_asking a) ≡ 0
+asking_not : (a : Answer) → lent_at (after_borrowing a) ≡ 0
 asking_not (answers.Take i) = refl
 asking_not (answers.Make i) = refl
 asking_not answers.Wait = refl
 asking_not answers.Exhausted = refl
 asking_not answers.TimedOut = refl
-asking_not (answers.Refused c) = refused_not c
+asking_not (answers.Refused causes.Closed) = refl
+asking_not (answers.Refused _) = refl
 asking_not _ = refl
 
-good_lends : (i : ℕ) (new : Bool) (a : Answer) → lent_at (borrows.after_readying i new outcomes.Good a) ≡ cond (is_lent_answer a) 1 0
-good_lends i new answers.Lent = refl
-good_lends i new _ = refl
+good_lends : (i : ℕ) (a : Answer) → lent_at (after_lending i a) ≡ cond (is_lent_answer a) 1 0
+good_lends i answers.Lent = refl
+good_lends i _ = refl
 
-unready_not : (i : ℕ) (new : Bool) (o : Outcome) (a : Answer) → is_good o ≡ false → lent_at (borrows.after_readying i new o a) ≡ 0
-unready_not i new outcomes.Good a other = absurd (cc other)
-unready_not i new outcomes.MakeFailed answers.Freed other = refl
-unready_not i new outcomes.MakeFailed _ other = refl
-unready_not i new _ answers.Destroy other = refl
-unready_not i new _ _ other = refl
+ended_not : (o : Outcome) → lent_at (stages.Ends (end_by o)) ≡ 0
+ended_not outcomes.Good = refl
+ended_not _ = refl
 
-unready : (i : ℕ) (new : Bool) (j : ℕ) (o : Outcome) (e : Entry) → Ordered e → e.input ≡ inputs.Ready j o → is_good o ≡ false → lent_by e + 0 ≡ lent_at (borrows.after_readying i new o e.answer)
-unready i new j o e ordered is other = let none = not_lent e ordered (ap is_ready is ∙ other) in let a = unready_not i new o e.answer other in omega (arith, none, a)
+object_not : (began : ℕ) (object : Object) (o : Outcome) → lent_at (after_object (kinds.Borrow began) object o) ≡ 0
+object_not began object o = by_flag object.is_new
+  where
+    by_flag : (new : Bool) → lent_at (if new then stages.Ends (end_by o) else asks) ≡ 0
+    by_flag true = ended_not o
+    by_flag false = refl
 
-readied : (i : ℕ) (new : Bool) (j : ℕ) (o : Outcome) (e : Entry) → Ordered e → e.input ≡ inputs.Ready j o → lent_by e + 0 ≡ lent_at (borrows.after_readying i new o e.answer)
-readied i new j outcomes.Good e ordered is = let a = good_lends i new e.answer in omega (arith, a)
-readied i new j _ e ordered is = unready i new j _ e ordered is refl
+freeing_not : (began : ℕ) (object : Object) (o : Outcome) (a : Answer) → lent_at (after_freeing (kinds.Borrow began) object o a) ≡ 0
+freeing_not began object o answers.Freed = object_not began object o
+freeing_not began object o _ = refl
 
-freeing_not : (new : Bool) (o : Outcome) → lent_at (borrows.after_freeing new o) ≡ 0
-freeing_not true o = refl
-freeing_not false o = refl
+failing_not : (object : Object) (o : Outcome) (a : Answer) → lent_at (after_failure object o a) ≡ 0
+failing_not object o answers.Destroy = refl
+failing_not object o _ = refl
 
-destroying_not : (new : Bool) (o : Outcome) (a : Answer) → lent_at (borrows.after_destroying new o a) ≡ 0
-destroying_not new o answers.Freed = freeing_not new o
-destroying_not new o _ = refl
+unready_not : (began : ℕ) (object : Object) (o : Outcome) (a : Answer) → is_good o ≡ false → lent_at (after_report (kinds.Borrow began) object o a) ≡ 0
+unready_not began object outcomes.Good a other = absurd (cc other)
+unready_not began object outcomes.MakeFailed a other = freeing_not began object outcomes.MakeFailed a
+unready_not began object _ a other = failing_not object _ a
+
+unready : (began : ℕ) (object : Object) (o : Outcome) (e : Entry) → Ordered e → e.input ≡ inputs.Ready object.id o → is_good o ≡ false → lent_by e + 0 ≡ lent_at (after_report (kinds.Borrow began) object o e.answer)
+unready began object o e ordered is other = let none = not_lent e ordered (ap is_ready is ∙ other) in let a = unready_not began object o e.answer other in omega (arith, none, a)
+
+readied : (began : ℕ) (object : Object) (o : Outcome) (e : Entry) → Ordered e → e.input ≡ inputs.Ready object.id o → lent_by e + 0 ≡ lent_at (after_report (kinds.Borrow began) object o e.answer)
+readied began object outcomes.Good e ordered is = let a = good_lends object.id e.answer in omega (arith, a)
+readied began object _ e ordered is = unready began object _ e ordered is refl
 
 -- an entry of a borrow lends exactly if it leads to that stage
-borrow_step : (s : Settings) (began : ℕ) (st : borrows.Stage) (e : Entry) → Ordered e → borrows.IsExpected (plan_of s) began st e.input → lent_by e + lent_at st ≡ lent_at (borrows.next st (turn_of e))
-borrow_step s began borrows.begins e ordered due =
-    let a = not_lent e ordered (ap is_ready due) in let b = beginning_not e.answer in omega (arith, a, b)
-borrow_step s began (borrows.removes n) e ordered due =
-    let a = not_lent e ordered (ap is_ready due.1) in let b = removing_not n e.answer in omega (arith, a, b)
-borrow_step s began borrows.asks e ordered due =
+borrow_step : (s : Settings) (began : ℕ) (st : Stage) (e : Entry) → Ordered e → IsExpected (plan_of s) (kinds.Borrow began) st e.input → lent_by e + lent_at st ≡ lent_at (next (kinds.Borrow began) st (turn_of e))
+borrow_step s began (stages.Asks requests.Begin) e ordered due =
+    let a = not_lent e ordered (ap is_ready due) in let b = beginning_not began e.answer in omega (arith, a, b)
+borrow_step s began (stages.Asks requests.Ask) e ordered due =
     let a = not_lent e ordered (ap is_ready due) in let b = asking_not e.answer in omega (arith, a, b)
-borrow_step s began (borrows.readies i new) e ordered due = by_input e.input refl due
-  where
-    by_input : (input : Input) → e.input ≡ input → borrows.IsReady (plan_of s) i new input → lent_by e + 0 ≡ lent_at (borrows.after_report i new input e.answer)
-    by_input (inputs.Ready j o) is due = readied i new j o e ordered is
-    by_input _ is due = absurd due
-borrow_step s began (borrows.destroys i new o) e ordered due =
-    let a = not_lent e ordered (ap is_ready due) in let b = destroying_not new o e.answer in omega (arith, a, b)
+borrow_step s began (stages.Asks (requests.Next left)) e ordered due =
+    let a = not_lent e ordered (ap is_ready due) in let b = removing_not began left e.answer in omega (arith, a, b)
+borrow_step s began (stages.Works object) e ordered due = readied began object (outcome_of e.input) e ordered due.0
+borrow_step s began (stages.Removes object o) e ordered due =
+    let a = not_lent e ordered (ap is_ready due) in let b = freeing_not began object o e.answer in omega (arith, a, b)
 borrow_step s began _ e ordered due = absurd due
 
-borrow_lends : (s : Settings) (began : ℕ) (st : borrows.Stage) (es : List Entry) → AllOrdered es → AllExpected (borrows.IsExpected (plan_of s) began) borrows.next st es
-    → lent_in es + lent_at st ≡ lent_at (run_stages borrows.next st es)
+borrow_lends : (s : Settings) (began : ℕ) (st : Stage) (es : List Entry) → AllOrdered es → AllExpected s (kinds.Borrow began) st es → lent_in es + lent_at st ≡ lent_at (run_stages (kinds.Borrow began) st es)
 borrow_lends s began st [] all due = omega arith
 borrow_lends s began st (e ∷ es) all due =
-    let here = borrow_step s began st e all.0 due.0 in let rest = borrow_lends s began (borrows.next st (turn_of e)) es all.1 due.1 in omega (arith, here, rest)
+    let here = borrow_step s began st e all.0 due.0 in let rest = borrow_lends s began (next (kinds.Borrow began) st (turn_of e)) es all.1 due.1 in omega (arith, here, rest)
 
-starts_not : (s : Settings) → lent_at (borrows.first_stage (plan_of s)) ≡ 0
-starts_not s = by_flag s.remove_abandoned_on_borrow
+starts_not : (s : Settings) (began : ℕ) → lent_at (borrows_from s began) ≡ 0
+starts_not s began = by_flag s.remove_abandoned_on_borrow
   where
-    by_flag : (b : Bool) → lent_at (if b then borrows.begins else borrows.asks) ≡ 0
+    by_flag : (b : Bool) → lent_at (if b then stages.Asks requests.Begin else asks) ≡ 0
     by_flag true = refl
     by_flag false = refl
 
-refusal_not : (st : borrows.Stage) → IsRefusal st → lent_at st ≡ 0
-refusal_not (borrows.lent i) is = absurd is
+refusal_not : (st : Stage) → IsRefusal st → lent_at st ≡ 0
+refusal_not (stages.Ends (ends.Lent i)) is = absurd is
 refusal_not _ is = refl
 
 -- no entry reports an object as ready
 abbrev NoneReady : List Entry → Type 0
-NoneReady [] = Unit {0}
-NoneReady (e ∷ es) = (is_ready e.input ≡ false) × NoneReady es
+NoneReady es = AllTest is_ready false es
 
 none_lent : (es : List Entry) → AllOrdered es → NoneReady es → lent_in es ≡ 0
 none_lent [] all none = refl
 none_lent (e ∷ es) all none = let here = not_lent e all.0 none.0 in let rest = none_lent es all.1 none.1 in omega (arith, here, rest)
 
-return_not_ready : (s : Settings) (i : ℕ) (st : returns.Stage) (input : Input) → returns.IsExpected (plan_of s) i st input → is_ready input ≡ false
-return_not_ready s i returns.gives input due = ap is_ready due
-return_not_ready s i returns.checks (inputs.Park j o) due = refl
-return_not_ready s i returns.checks _ due = absurd due
-return_not_ready s i returns.destroys input due = ap is_ready due
-return_not_ready s i _ input due = absurd due
+return_asks : (i : ℕ) (request : Request) → is_ready (step_for (kinds.Return i) request) ≡ false
+return_asks i requests.Begin = refl
+return_asks i requests.Ask = refl
+return_asks i (requests.Next left) = refl
 
-return_none : (s : Settings) (i : ℕ) (st : returns.Stage) (es : List Entry) → AllExpected (returns.IsExpected (plan_of s) i) returns.next st es → NoneReady es
-return_none s i st [] due = tt
-return_none s i st (e ∷ es) due = (return_not_ready s i st e.input due.0, return_none s i (returns.next st (turn_of e)) es due.1)
+return_none : (s : Settings) (i : ℕ) (es : List Entry) → AllExpected s (kinds.Return i) asks es → NoneReady es
+return_none s i = tests_inputs s (kinds.Return i) is_ready false (return_asks i) (λ j o. refl) (λ j. refl) asks
 
-close_not_ready : (st : clears.Stage) (input : Input) → clears.IsExpected inputs.Close st input → is_ready input ≡ false
-close_not_ready clears.begins input due = ap is_ready due
-close_not_ready (clears.sweeps left taken) input due = ap is_ready due.1
-close_not_ready (clears.destroys i left taken) input due = ap is_ready due
-close_not_ready _ input due = absurd due
+close_asks : (request : Request) → is_ready (step_for kinds.Close request) ≡ false
+close_asks requests.Begin = refl
+close_asks requests.Ask = refl
+close_asks (requests.Next left) = refl
 
-close_none : (st : clears.Stage) (es : List Entry) → AllExpected (clears.IsExpected inputs.Close) clears.next st es → NoneReady es
-close_none st [] due = tt
-close_none st (e ∷ es) due = (close_not_ready st e.input due.0, close_none (clears.next st (turn_of e)) es due.1)
+close_none : (s : Settings) (es : List Entry) → AllExpected s kinds.Close asks es → NoneReady es
+close_none s = tests_inputs s kinds.Close is_ready false close_asks (λ j o. refl) (λ j. refl) asks
 
 round_lends : (s : Settings) (f : ℕ) (es : List Entry) → AllOrdered es → Round s f es → lent_in es + f ≡ 1
 round_lends s f es all (lends i bs gs is none bought gave) =
     let parts = ordered_parts bs gs (subst AllOrdered is all) in
-    let out = borrow_lends s bought.began (borrows.first_stage (plan_of s)) bs parts.0 bought.due in
-    let begins = starts_not s in
-    let ends = ap lent_at bought.ends in
-    let back = none_lent gs parts.1 (return_none s i returns.gives gs gave.due) in
+    let out = borrow_lends s bought.began (borrows_from s bought.began) bs parts.0 bought.due in
+    let begins = starts_not s bought.began in
+    let ended = ap lent_at bought.ends in
+    let back = none_lent gs parts.1 (return_none s i gs gave.due) in
     let both = ap lent_in is ∙ lent_parts bs gs in
-    omega (arith, out, begins, ends, back, both, none)
+    omega (arith, out, begins, ended, back, both, none)
 round_lends s f es all (refuses one refused) =
-    let out = borrow_lends s refused.began (borrows.first_stage (plan_of s)) es all refused.due in
-    let begins = starts_not s in
-    let ends = refusal_not (run_stages borrows.next (borrows.first_stage (plan_of s)) es) refused.ends in
-    omega (arith, out, begins, ends, one)
+    let out = borrow_lends s refused.began (borrows_from s refused.began) es all refused.due in
+    let begins = starts_not s refused.began in
+    let ended = refusal_not (borrowed_to s refused.began es) refused.ends in
+    omega (arith, out, begins, ended, one)
 
 worked_lends : (s : Settings) (r f : ℕ) (es : List Entry) → AllOrdered es → IsWorked s r f es → lent_in es + f ≡ r
 worked_lends s zero f es all w = let none = ap lent_in w.1 in let is = w.0 in omega (arith, none, is)
@@ -306,8 +308,8 @@ all_rounds s workers rounds refused r load =
     let one : workers + 1 ≡ suc workers = omega arith in
     let lent = all_lends (suc workers) J (subst (λ n. AllBelow n J) one load.below) in
     let row = load.closed.row in
-    let last : row.es ≡ entries_with_number workers J = sym row.made ∙ load.closed.appended in
-    let none = none_lent (entries_with_number workers J) (ordered_own workers J all) (subst NoneReady last (close_none clears.begins row.es row.due)) in
+    let last : row.0.es ≡ entries_with_number workers J = sym row.0.made ∙ load.closed.appended in
+    let none = none_lent (entries_with_number workers J) (ordered_own workers J all) (subst NoneReady last (close_none s row.0.es row.0.due)) in
     let each = pairs (λ w. lent_in (entries_with_number w J)) (λ w. slice_index load.refusals w) rounds workers (λ w lt. worked_lends s rounds (slice_index load.refusals w) (entries_with_number w J) (ordered_own w J all) (load.worked w lt)) in
     let sums : refused ≡ sum_to (λ w. slice_index load.refusals w) workers =
     load.all ∙ sum_total load.refusals ∙ total_at load.refusals ∙ ap (λ n. sum_to (λ w. slice_index load.refusals w) n) load.each in

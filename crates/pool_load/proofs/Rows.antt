@@ -3,7 +3,6 @@ use Rattle.std.proofs.Common.{◌≡◌, ◌≢◌, ◌⊎◌, inl, inr, ℕ, ze
 use Rattle.pool_journal.specs.declared.entry.Entry.{Entry}
 use Rattle.pool_journal.specs.declared.answer.Answer.{Answer}
 use Rattle.pool_journal.specs.declared.answer.Answer.TheVariants as answers
-use Rattle.pool_journal.specs.declared.answer.Cause.{Cause}
 use Rattle.pool_journal.specs.declared.answer.Cause.TheVariants as causes
 use Rattle.pool_settings.specs.declared.settings.Settings.{Settings}
 use Rattle.pool_history.specs.CallerStates.{CallerState, Advances}
@@ -20,23 +19,27 @@ use Rattle.pool_shared.specs.Traces.{turn_of, run_stages}
 use Rattle.pool_shared.specs.TraceToResult.{IsRoomFault}
 use Rattle.pool_journal.specs.Journal.{phase}
 use Rattle.pool_journal.specs.declared.record.Phase.TheVariants as phases
-use Rattle.pool_journal.specs.declared.input.Input.{Input}
 use Rattle.pool_journal.specs.declared.input.Input.TheVariants as inputs
 use Rattle.pool_journal.specs.declared.input.Outcome.{Outcome}
 use Rattle.pool_journal.specs.declared.input.Outcome.TheVariants as outcomes
-use Rattle.pool_calls.specs.BorrowRules as borrows
-use Rattle.pool_shared.specs.Borrows.{BorrowEnds, BorrowSpec}
-use Rattle.pool_shared.specs.Plans.{plan_of}
-use Rattle.pool_shared.specs.Returns.{done, ReturnSpec}
-use Rattle.pool_calls.specs.ReturnRules as returns
+use Rattle.pool_calls.specs.declared.kind.Kind.TheVariants as kinds
+use Rattle.pool_calls.specs.declared.stage.Object.{Object}
+use Rattle.pool_calls.specs.declared.stage.Stage.{Stage}
+use Rattle.pool_calls.specs.declared.stage.Stage.TheVariants as stages
+use Rattle.pool_calls.specs.Rules.{next}
+use Rattle.pool_calls.specs.Steps.{outcome_of}
+use Rattle.pool_calls.specs.Table.{after_returning, after_report, after_freeing, after_parking, after_failure}
 use Rattle.pool_calls.specs.Turns.{Turn}
+use Rattle.pool_shared.specs.Stages.{asks}
+use Rattle.pool_shared.specs.Borrows.{BorrowEnds, BorrowSpec}
+use Rattle.pool_shared.specs.Returns.{done, ReturnSpec}
 use Rattle.pool_engines.specs.declared.load_fault.LoadFault.{LoadFault}
 use Rattle.pool_engines.specs.declared.load_fault.LoadFault.TheVariants as stops
-use Rattle.pool_load.specs.Rounds.{IsRefusal, IsThrough, ReturnDone, Round, lends, refuses, IsWorked, MakesRound, MakesRounds, IsNonResourceError, StopsFor, borrowing, returning, StopsOneRound, StopsRound, StopsInRounds, Stops}
+use Rattle.pool_load.specs.Rounds.{IsRefusal, IsThrough, borrowed_to, ReturnDone, Round, lends, refuses, IsWorked, MakesRound, MakesRounds, IsNonResourceError, StopsFor, borrowing, returning, StopsOneRound, StopsRound, StopsInRounds, Stops}
 use Rattle.pool_shared.proofs.Sweeping.{goes_then}
 
 -- a borrow that failed with an error of its own
-refusal_is : (T : Type 0) {E : Type 0} (s : Settings) (number began : ℕ) (st : borrows.Stage) (f : BorrowFault E) (me : CallerState) → IsNonResourceError f → BorrowEnds {T = T} s number began st (Err f) me → IsRefusal st
+refusal_is : (T : Type 0) {E : Type 0} (s : Settings) (number began : ℕ) (st : Stage) (f : BorrowFault E) (me : CallerState) → IsNonResourceError f → BorrowEnds {T = T} s number began st (Err f) me → IsRefusal st
 refusal_is T s number began st faults.Closed me own is = subst IsRefusal (sym is.0) tt
 refusal_is T s number began st faults.Exhausted me own is = subst IsRefusal (sym is.0) tt
 refusal_is T s number began st faults.TimedOut me own is = subst IsRefusal (sym is.0) tt
@@ -50,7 +53,7 @@ refusal_is T s number began st faults.OutOfMemory me own is = absurd own
 pub refused_round : (T : Type 0) {E : Type 0} (s : Settings) (number : ℕ) (f : BorrowFault E) (before after : CallerState) → IsNonResourceError f → BorrowSpec {T = T} s number (Err f) before after → MakesRound s 1 before after
 refused_round T s number f before after own row =
     let r = row.1 in
-    (r.es, r.made, refuses refl (record { began = row.0; due = r.due; ends = refusal_is T s number row.0 (run_stages borrows.next (borrows.first_stage (plan_of s)) r.es) f after own r.ends }))
+    (r.es, r.made, refuses refl (record { began = row.0; due = r.due; ends = refusal_is T s number row.0 (borrowed_to s row.0 r.es) f after own r.ends }))
 
 -- a borrow and a return
 both : (E : Type 0) {T : Type 0} (s : Settings) (number : ℕ) (l : Lent T) (a b c : CallerState) → BorrowSpec {T = T} {E = E} s number (Ok l) a b → (gs : List Entry) → c.appended ≡ b.appended ++ gs → ReturnDone s l.id gs → MakesRound s 0 a c
@@ -61,19 +64,19 @@ both E s number l a b c row gs made done =
       lends l.id r.es gs refl refl (record { began = row.0; due = r.due; ends = r.ends.0 }) done,
     )
 
-through_done : (q : Returned) → IsThrough (done q)
-through_done returned.Parked = tt
-through_done returned.Destroyed = tt
-through_done returned.Gone = tt
+through_done : (i : ℕ) (q : Returned) → IsThrough i (done i q)
+through_done i returned.Parked = tt
+through_done i returned.Destroyed = tt
+through_done i returned.Gone = refl
 
 pub returned_round : (E : Type 0) {T : Type 0} (s : Settings) (number : ℕ) (l : Lent T) (q : Returned) (a b c : CallerState) → BorrowSpec {T = T} {E = E} s number (Ok l) a b → ReturnSpec s number l (Ok q) b c → MakesRound s 0 a c
 returned_round E s number l q a b c row back =
-    both E s number l a b c row back.1.es back.1.made (record { due = back.1.due; ends = subst IsThrough (sym back.1.ends.0) (through_done q) })
+    both E s number l a b c row back.1.es back.1.made (record { due = back.1.due; ends = subst (IsThrough l.id) (sym back.1.ends.0) (through_done l.id q) })
 
 pub kept_round : (E : Type 0) {T : Type 0} (s : Settings) (number : ℕ) (l m : Lent T) (f : ReturnFault) (a b c : CallerState) → f ≡ refusals.NotLent → BorrowSpec {T = T} {E = E} s number (Ok l) a b → ReturnSpec s number l (Err (f, m)) b c → MakesRound s 0 a c
 kept_round E s number l m f a b c is row back =
     let there : ReturnSpec s number l (Err (refusals.NotLent, m)) b c = subst (λ x. ReturnSpec s number l (Err (x, m)) b c) is back in
-    both E s number l a b c row there.1.es there.1.made (record { due = there.1.due; ends = subst IsThrough (sym there.1.ends.0) tt })
+    both E s number l a b c row there.1.es there.1.made (record { due = there.1.due; ends = subst (IsThrough l.id) (sym there.1.ends.0) tt })
 
 -- a borrow that failed for lack of room or memory
 pub stopped_borrow : (T : Type 0) {E : Type 0} (s : Settings) (number : ℕ) (f : BorrowFault E) (stop : LoadFault) (before after : CallerState) → StopsFor stop f → BorrowSpec {T = T} s number (Err f) before after → StopsRound s stop before after
@@ -83,56 +86,56 @@ stopped_borrow T s number _ stops.JournalFull before after is row = absurd is
 stopped_borrow T s number _ stops.OutOfMemory before after is row = absurd is
 stopped_borrow T s number f _ before after is row = absurd is
 
--- no entry leads to the first stage of a return
-abbrev is_giving : returns.Stage → Bool
-is_giving returns.gives = true
-is_giving _ = false
+-- a return asks only at first
+abbrev pub is_asking : Stage → Bool
+is_asking (stages.Asks request) = true
+is_asking _ = false
 
-refused_not : (c : Cause) → is_giving (returns.after_refusal c) ≡ false
-refused_not causes.NotLent = refl
-refused_not _ = refl
+pub giving_not : (i : ℕ) (a : Answer) → is_asking (after_returning i a) ≡ false
+giving_not i answers.Check = refl
+giving_not i answers.Gone = refl
+giving_not i (answers.Refused causes.NotLent) = refl
+giving_not i (answers.Refused _) = refl
+giving_not i _ = refl
 
-giving_not : (a : Answer) → is_giving (returns.after_giving a) ≡ false
-giving_not answers.Check = refl
-giving_not answers.Gone = refl
-giving_not (answers.Refused c) = refused_not c
-giving_not _ = refl
+freeing_not : (i : ℕ) (object : Object) (o : Outcome) (a : Answer) → is_asking (after_freeing (kinds.Return i) object o a) ≡ false
+freeing_not i object o answers.Freed = refl
+freeing_not i object o _ = refl
 
-checking_not : (o : Outcome) (a : Answer) → is_giving (returns.after_checking o a) ≡ false
-checking_not outcomes.Good answers.Parked = refl
-checking_not outcomes.Good answers.Destroy = refl
-checking_not outcomes.Good _ = refl
-checking_not _ answers.Destroy = refl
-checking_not _ _ = refl
+parking_not : (i : ℕ) (object : Object) (a : Answer) → is_asking (after_parking (kinds.Return i) object a) ≡ false
+parking_not i object answers.Parked = refl
+parking_not i object answers.Destroy = refl
+parking_not i object _ = refl
 
-parking_not : (input : Input) (a : Answer) → is_giving (returns.after_parking input a) ≡ false
-parking_not (inputs.Park j o) a = checking_not o a
-parking_not _ a = refl
+failing_not : (object : Object) (o : Outcome) (a : Answer) → is_asking (after_failure object o a) ≡ false
+failing_not object o answers.Destroy = refl
+failing_not object o _ = refl
 
-destroying_not : (a : Answer) → is_giving (returns.after_destroying a) ≡ false
-destroying_not answers.Freed = refl
-destroying_not _ = refl
+reporting_not : (i : ℕ) (object : Object) (o : Outcome) (a : Answer) → is_asking (after_report (kinds.Return i) object o a) ≡ false
+reporting_not i object outcomes.Good a = parking_not i object a
+reporting_not i object outcomes.MakeFailed a = freeing_not i object outcomes.MakeFailed a
+reporting_not i object _ a = failing_not object _ a
 
-not_again : (st : returns.Stage) (t : Turn) → is_giving (returns.next st t) ≡ false
-not_again returns.gives t = giving_not t.answer
-not_again returns.checks t = parking_not t.input t.answer
-not_again returns.destroys t = destroying_not t.answer
-not_again _ t = refl
+pub not_again : (i : ℕ) (st : Stage) (t : Turn) → is_asking st ≡ false → is_asking (next (kinds.Return i) st t) ≡ false
+not_again i (stages.Asks request) t not = absurd (cc not)
+not_again i (stages.Works object) t not = reporting_not i object (outcome_of t.input) t.answer
+not_again i (stages.Removes object o) t not = freeing_not i object o t.answer
+not_again i _ t not = refl
 
-never_again : (st : returns.Stage) (e : Entry) (es : List Entry) → is_giving (run_stages returns.next st (e ∷ es)) ≡ false
-never_again st e [] = not_again st (turn_of e)
-never_again st e (f ∷ fs) = never_again (returns.next st (turn_of e)) f fs
+never_again : (i : ℕ) (st : Stage) (es : List Entry) → is_asking st ≡ false → is_asking (run_stages (kinds.Return i) st es) ≡ false
+never_again i st [] not = not
+never_again i st (e ∷ es) not = never_again i (next (kinds.Return i) st (turn_of e)) es (not_again i st (turn_of e) not)
 
-none_given : (es : List Entry) → run_stages returns.next returns.gives es ≡ returns.gives → es ≡ []
-none_given [] is = refl
-none_given (e ∷ es) is = absurd (cc (sym (never_again returns.gives e es) ∙ ap is_giving is))
+none_given : (i : ℕ) (es : List Entry) → run_stages (kinds.Return i) asks es ≡ asks → es ≡ []
+none_given i [] is = refl
+none_given i (e ∷ es) is = absurd (cc (sym (never_again i (after_returning i e.answer) es (giving_not i e.answer)) ∙ ap is_asking is))
 
 -- a return that failed for lack of room or memory
 returned_none : (E : Type 0) {T : Type 0} (s : Settings) (number : ℕ) (l : Lent T) (f : PoolFault) (a b c : CallerState) → BorrowSpec {T = T} {E = E} s number (Ok l) a b → (gs : List Entry) → c.appended ≡ b.appended ++ gs
-    → run_stages returns.next returns.gives gs ≡ returns.gives → phase l.id c.observed ≢ phases.Lent → IsRoomFault s (inputs.GiveBack l.id) f c → StopsOneRound s f a c
+    → run_stages (kinds.Return l.id) asks gs ≡ asks → phase l.id c.observed ≢ phases.Lent → IsRoomFault s (inputs.GiveBack l.id) f c → StopsOneRound s f a c
 returned_none E s number l f a b c row gs made ends not_lent fails =
     let r = row.1 in
-    let none = none_given gs ends in (
+    let none = none_given l.id gs ends in (
       r.es,
       made ∙ ap (λ x. b.appended ++ x) none ∙ append-nil b.appended ∙ r.made,
       returning l.id (record { borrowed = record { began = row.0; due = r.due; ends = r.ends.0 }; not_lent = not_lent; fails = fails }),

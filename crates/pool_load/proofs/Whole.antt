@@ -14,8 +14,10 @@ use Rattle.pool_history.specs.CellInvariant.{entries_with_number, AllBelow, IsPr
 use Rattle.pool_history.specs.CallerStates.{CallerState, Advances, newcomer_at}
 use Rattle.pool_shared.specs.declared.faults.PoolFault.{PoolFault}
 use Rattle.pool_shared.specs.Traces.{run_stages}
-use Rattle.pool_calls.specs.ClearRules.{begins, next}
-use Rattle.pool_shared.specs.Clears.{IsOver, CloseSpec}
+use Rattle.pool_calls.specs.declared.kind.Kind.TheVariants as kinds
+use Rattle.pool_shared.specs.Counts.{counted, Counts}
+use Rattle.pool_shared.specs.Stages.{asks, complete}
+use Rattle.pool_shared.specs.Clears.{CloseSpec}
 use Rattle.pool_engines.specs.declared.load_fault.LoadFault.{LoadFault}
 use Rattle.pool_engines.specs.declared.load_fault.LoadFault.TheVariants as stops
 use Rattle.pool_load.specs.Rounds.{IsWorked}
@@ -137,8 +139,11 @@ module _ (s : Settings) (rounds workers : ℕ) (front after : List CallerState) 
       let inputs : (w : ℕ) → w < workers → AllOfRounds (entries_with_number w H) =
       λ w lt. works_inputs s rounds (slice_index_or os w (Ok 0)) w H (only w (slice_index_or os w (Ok 0)) (slice_get-get_or os w (Ok 0) (omega (arith, lt, reported)))) in
       let spec = subst (λ c. CloseSpec s result c last') new.end row in
-      let seen = sym spec.made ∙ goes.all ∙ ap (λ n. entries_with_number n last'.observed) number in
-      let whole = close_whole s workers H result last' below inputs closes.1 goes.legal spec.es seen spec.due spec.ends in
+      let seen = sym spec.0.made ∙ goes.all ∙ ap (λ n. entries_with_number n last'.observed) number in
+      let whole = close_whole s workers H result last' below inputs closes.1 goes.legal spec.0.es seen spec.0.due spec.0.ends in
+      let closing = subst (λ r. CloseSpec s r (newcomer_at workers) last') whole.is spec in
+      let taken : Counts kinds.Close whole.taken (newcomer_at workers) last' = closing.1 in
+      let counts : counted kinds.Close last'.appended ≡ counted kinds.Close (entries_with_number workers H) = ap (counted kinds.Close) own in
       record {
         legal = legal;
         below = below;
@@ -150,8 +155,8 @@ module _ (s : Settings) (rounds workers : ℕ) (front after : List CallerState) 
           goes = subst (λ c. Advances s c last') new.end goes;
           appended = own;
           observed = closes.1;
-          row = subst (λ r. CloseSpec s r (newcomer_at workers) last') whole.is spec;
-          over = subst (λ es. IsOver (run_stages next begins es) whole.taken) (sym spec.made ∙ own) whole.over;
+          row = closing;
+          over = (subst (λ es. run_stages kinds.Close asks es ≡ complete) (sym spec.0.made ∙ own) whole.over, omega (arith, taken, counts));
         };
       }
 

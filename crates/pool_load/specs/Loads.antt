@@ -7,8 +7,6 @@ use Rattle.pool_stats.specs.declared.statistics.Statistics.{Statistics}
 use Rattle.pool_core.specs.Legal.{IsLegal}
 use Rattle.pool_history.specs.CellInvariant.{entries_with_number, AllBelow, IsPrefix}
 use Rattle.pool_history.specs.CallerStates.{CallerState, Advances, newcomer_at}
-use Rattle.pool_shared.specs.Traces.{run_stages}
-use Rattle.pool_calls.specs.ClearRules.{begins, next}
 use Rattle.pool_shared.specs.Clears.{IsOver, CloseSpec}
 use Rattle.pool_engines.specs.declared.load_fault.LoadFault.{LoadFault}
 use Rattle.pool_engines.specs.declared.load_fault.LoadFault.TheVariants.{WorkerCount, RoundCount, JournalFull, NoThread}
@@ -24,7 +22,7 @@ pub record IsInRange (workers rounds : ℕ) : Type 0 where
 
 -- all entries of the caller of this number in a history are those of one whole close, its first and last call: from a newcomer
 -- on it observed a legal history, up to its last entry at least, and appended the entries of a close that took this many
--- objects, up to the stage at which the sweep is complete
+-- objects, and that they complete
 pub record OnlyCloses (s : Settings) (n : ℕ) (journal : List Entry) : Type 0 where
   pub taken : ℕ
   pub after : CallerState
@@ -32,7 +30,7 @@ pub record OnlyCloses (s : Settings) (n : ℕ) (journal : List Entry) : Type 0 w
   pub appended : after.appended ≡ entries_with_number n journal
   pub observed : IsPrefix after.observed journal
   pub row : CloseSpec s (Ok taken) (newcomer_at n) after
-  pub over : IsOver (run_stages next begins (entries_with_number n journal)) taken
+  pub over : IsOver (entries_with_number n journal) taken
 
 -- all entries of the caller of this number in a history are those of a worker with this outcome: those of its rounds, none if it
 -- had no thread, or those of a newcomer that stopped in its rounds, after it had observed a prefix of the history

@@ -2,9 +2,6 @@
 use Rattle.std.specs.Prelude.{◌≡◌, ◌≢◌, ℕ, zero, suc, ◌+◌, ◌<◌, List, [], ◌++◌}
 use Rattle.pool_journal.specs.declared.entry.Entry.{Entry}
 use Rattle.pool_journal.specs.declared.input.Input.TheVariants.{GiveBack}
-use Rattle.pool_journal.specs.declared.answer.Answer.{Answer}
-use Rattle.pool_journal.specs.declared.answer.Answer.TheVariants as answers
-use Rattle.pool_journal.specs.declared.answer.Cause.TheVariants as causes
 use Rattle.pool_settings.specs.declared.settings.Settings.{Settings}
 use Rattle.pool_journal.specs.Journal.{phase}
 use Rattle.pool_journal.specs.declared.record.Phase.TheVariants as phases
@@ -14,51 +11,67 @@ use Rattle.pool_shared.specs.declared.faults.BorrowFault.TheVariants as faults
 use Rattle.pool_shared.specs.declared.faults.PoolFault.{PoolFault}
 use Rattle.pool_shared.specs.declared.faults.PoolFault.TheVariants as pool_faults
 use Rattle.pool_shared.specs.TraceToResult.{IsRoomFault}
-use Rattle.pool_shared.specs.Traces.{run_stages, AllExpected}
-use Rattle.pool_calls.specs.BorrowRules as borrows
-use Rattle.pool_shared.specs.Borrows.{IsStopped}
+use Rattle.pool_calls.specs.declared.action.End.{End}
+use Rattle.pool_calls.specs.declared.action.End.TheVariants as ends
+use Rattle.pool_calls.specs.declared.kind.Kind.TheVariants as kinds
+use Rattle.pool_calls.specs.declared.stage.Stage.{Stage}
+use Rattle.pool_calls.specs.declared.stage.Stage.TheVariants as stages
+use Rattle.pool_calls.specs.Rules.{first_stage}
 use Rattle.pool_shared.specs.Plans.{plan_of}
-use Rattle.pool_calls.specs.ReturnRules as returns
+use Rattle.pool_shared.specs.Stages.{asks}
+use Rattle.pool_shared.specs.Traces.{run_stages, AllExpected}
+use Rattle.pool_shared.specs.Borrows.{IsStopped}
 use Rattle.pool_engines.specs.declared.load_fault.LoadFault.{LoadFault}
 use Rattle.pool_engines.specs.declared.load_fault.LoadFault.TheVariants.{JournalFull, OutOfMemory}
 
--- the answers with which a borrow is refused
-abbrev pub IsRefusing : Answer → Type 0
-IsRefusing (answers.Refused causes.Closed) = Unit {0}
-IsRefusing answers.Exhausted = Unit {0}
-IsRefusing answers.TimedOut = Unit {0}
+-- the ends of a borrow that was refused, or whose new object was not made ready
+abbrev pub IsRefusing : End → Type 0
+IsRefusing ends.Closed = Unit {0}
+IsRefusing ends.Exhausted = Unit {0}
+IsRefusing ends.TimedOut = Unit {0}
+IsRefusing ends.MakeFailed = Unit {0}
+IsRefusing ends.CreateTestFailed = Unit {0}
+IsRefusing ends.ActivateFailed = Unit {0}
+IsRefusing ends.BorrowTestFailed = Unit {0}
 IsRefusing _ = ⊥
 
--- a borrow that was refused, or whose new object was not made ready
-abbrev pub IsRefusal : borrows.Stage → Type 0
-IsRefusal (borrows.refused a) = IsRefusing a
-IsRefusal (borrows.failed o) = Unit {0}
+-- a borrow that ended so
+abbrev pub IsRefusal : Stage → Type 0
+IsRefusal (stages.Ends e) = IsRefusing e
 IsRefusal _ = ⊥
 
 -- a return that is complete, or whose object was not lent any more
-abbrev pub IsThrough : returns.Stage → Type 0
-IsThrough returns.parked = Unit {0}
-IsThrough returns.destroyed = Unit {0}
-IsThrough returns.gone = Unit {0}
-IsThrough returns.not_lent = Unit {0}
-IsThrough _ = ⊥
+abbrev pub IsThrough : ℕ → Stage → Type 0
+IsThrough i (stages.Ends ends.Parked) = Unit {0}
+IsThrough i (stages.Ends ends.Destroyed) = Unit {0}
+IsThrough i (stages.Ends ends.NotLent) = Unit {0}
+IsThrough i (stages.Gone j) = j ≡ i
+IsThrough i _ = ⊥
+
+-- the first stage of a borrow
+abbrev pub borrows_from : Settings → ℕ → Stage
+borrows_from s began = first_stage (plan_of s) (kinds.Borrow began)
+
+-- the stage of a borrow after its entries
+abbrev pub borrowed_to : Settings → ℕ → List Entry → Stage
+borrowed_to s began es = run_stages (kinds.Borrow began) (borrows_from s began) es
 
 -- the entries of a whole borrow that lent this object
 pub record BorrowDone (s : Settings) (i : ℕ) (es : List Entry) : Type 0 where
   pub began : ℕ
-  pub due : AllExpected (borrows.IsExpected (plan_of s) began) borrows.next (borrows.first_stage (plan_of s)) es
-  pub ends : run_stages borrows.next (borrows.first_stage (plan_of s)) es ≡ borrows.lent i
+  pub due : AllExpected s (kinds.Borrow began) (borrows_from s began) es
+  pub ends : borrowed_to s began es ≡ stages.Ends (ends.Lent i)
 
 -- the entries of a whole borrow that lent nothing
 pub record BorrowRefused (s : Settings) (es : List Entry) : Type 0 where
   pub began : ℕ
-  pub due : AllExpected (borrows.IsExpected (plan_of s) began) borrows.next (borrows.first_stage (plan_of s)) es
-  pub ends : IsRefusal (run_stages borrows.next (borrows.first_stage (plan_of s)) es)
+  pub due : AllExpected s (kinds.Borrow began) (borrows_from s began) es
+  pub ends : IsRefusal (borrowed_to s began es)
 
 -- the entries of a whole return of this object
 pub record ReturnDone (s : Settings) (i : ℕ) (es : List Entry) : Type 0 where
-  pub due : AllExpected (returns.IsExpected (plan_of s) i) returns.next returns.gives es
-  pub ends : IsThrough (run_stages returns.next returns.gives es)
+  pub due : AllExpected s (kinds.Return i) asks es
+  pub ends : IsThrough i (run_stages (kinds.Return i) asks es)
 
 -- one round, and the number of refused borrows in it
 pub data Round (s : Settings) (f : ℕ) (es : List Entry) : Type 0 where
@@ -91,8 +104,8 @@ StopsFor _ _ = ⊥
 -- the entries of a borrow whose next critical section failed with this error
 pub record BorrowStopped (s : Settings) (f : PoolFault) (es : List Entry) (me : CallerState) : Type 0 where
   pub began : ℕ
-  pub due : AllExpected (borrows.IsExpected (plan_of s) began) borrows.next (borrows.first_stage (plan_of s)) es
-  pub fails : IsStopped s began f (run_stages borrows.next (borrows.first_stage (plan_of s)) es) me
+  pub due : AllExpected s (kinds.Borrow began) (borrows_from s began) es
+  pub fails : IsStopped s began f (borrowed_to s began es) me
 
 -- the entries of a whole borrow of this object, whose return failed with this error before its first entry, since the object
 -- wasn't lent any more

@@ -26,37 +26,32 @@ use Rattle.pool_shared.specs.declared.lent.Lent.{Lent}
 use Rattle.pool_lock.specs.Sections.{AppendsAnswer, Refuses}
 use Rattle.pool_shared.specs.Traces.{Trace, EndsWithOwn}
 use Rattle.pool_shared.specs.Faults.{return_fault}
-use Rattle.pool_calls.specs.ReturnRules as returns
-use Rattle.pool_calls.specs.ReturnRules.{gives, checks, destroys, after_checking, IsPossibleOutcome}
-use Rattle.pool_calls.specs.InvalidateRules as invalidates
-use Rattle.pool_calls.specs.InvalidateRules.{begins}
-use Rattle.pool_calls.specs.TouchRules as touches
-use Rattle.pool_calls.specs.TouchRules.{uses}
-use Rattle.pool_shared.specs.Plans.{plan_of}
-use Rattle.pool_shared.specs.Returns.{done, ReturnEnds, ReturnSpec}
+use Rattle.pool_calls.specs.declared.action.End.TheVariants as ends
+use Rattle.pool_calls.specs.declared.kind.Kind.TheVariants as kinds
+use Rattle.pool_calls.specs.declared.stage.Stage.{Stage}
+use Rattle.pool_calls.specs.declared.stage.Stage.TheVariants as stages
+use Rattle.pool_calls.specs.Table.{works, after_invalidating}
+use Rattle.pool_shared.specs.Stages.{asks}
+use Rattle.pool_shared.specs.Returns.{done, IsPossibleOutcome, ReturnEnds, ReturnSpec}
 use Rattle.pool_shared.specs.Invalidates.{InvalidateEnds, InvalidateSpec}
 use Rattle.pool_shared.specs.Touches.{TouchEnds, TouchSpec}
 use Rattle.pool_shared.proofs.Traces.{trace_by, trace_on, trace_destroyed, ends_of}
 use Rattle.pool_shared.proofs.TracesToResults.{row_at, row_none}
 
--- an object that a check destroys
-destroyed_by : (o : Outcome) → after_checking o answers.Destroy ≡ destroys
-destroyed_by outcomes.Good = refl
-destroyed_by _ = refl
-
 -- a returned object is destroyed
-pub destroyed : (s : Settings) (i : ℕ) (o : Outcome) (a : Answer) (before mid after : CallerState) → IsPossibleOutcome (plan_of s) o → a ≡ answers.Destroy → AppendsAnswer (Park i o) a before mid → AppendsAnswer (Destroyed i) answers.Freed mid after
-    → Trace (returns.IsExpected (plan_of s) i) returns.next checks before after (done returned.Destroyed)
-destroyed s i o a before mid after may is made freed =
-    trace_destroyed (returns.IsExpected (plan_of s) i) returns.next checks destroys (done returned.Destroyed) i (Park i o) a answers.Destroy before mid after is made freed (refl, may) (destroyed_by o) refl refl
+pub destroyed : (s : Settings) (i : ℕ) (o : Outcome) (x : Answer) (a b c : CallerState) → IsPossibleOutcome s i o → x ≡ answers.Destroy → AppendsAnswer (Park i o) x a b → AppendsAnswer (Destroyed i) answers.Freed b c
+    → Trace s (kinds.Return i) (works i false 0) a c (done i returned.Destroyed)
+destroyed s i outcomes.MakeFailed x a b c may is made freed = absurd (true≢false (sym may))
+destroyed s i outcomes.Good x a b c may is made freed = trace_destroyed s (kinds.Return i) (works i false 0) (done i returned.Destroyed) i (Park i outcomes.Good) x answers.Destroy a b c is made freed (refl, may) refl refl
+destroyed s i _ x a b c may is made freed = trace_destroyed s (kinds.Return i) (works i false 0) (done i returned.Destroyed) i (Park i _) x answers.Destroy a b c is made freed (refl, may) refl refl
 
 -- a return whose object was checked
 pub checked : {T : Type 0} (s : Settings) (number : ℕ) (l : Lent T) (q : Returned) (x : Answer) (a b c : CallerState) → l.pool ≡ number → x ≡ answers.Check → AppendsAnswer (GiveBack l.id) x a b
-    → Trace (returns.IsExpected (plan_of s) l.id) returns.next checks b c (done q) → EndsWithOwn c → ReturnSpec s number l (Ok q) a c
-checked s number l q x a b c pool is made w ends = (
+    → Trace s (kinds.Return l.id) (works l.id false 0) b c (done l.id q) → EndsWithOwn c → ReturnSpec s number l (Ok q) a c
+checked s number l q x a b c pool is made w own = (
   pool,
-  row_at (returns.IsExpected (plan_of s) l.id) returns.next (ReturnEnds s l.id) gives (done q) (Ok q) a c
-      (trace_on (returns.IsExpected (plan_of s) l.id) returns.next gives checks (done q) a b c (trace_by (returns.IsExpected (plan_of s) l.id) returns.next gives checks (GiveBack l.id) x answers.Check a b is made refl refl) w) (refl, ends),
+  row_at s (kinds.Return l.id) (ReturnEnds s l.id) asks (done l.id q) (Ok q) a c
+      (trace_on s (kinds.Return l.id) asks (works l.id false 0) (done l.id q) a b c (trace_by s (kinds.Return l.id) asks (works l.id false 0) (GiveBack l.id) x answers.Check a b is made refl refl) w) (refl, own),
 )
 
 -- an input that would complete a step if the object were lent
@@ -72,50 +67,50 @@ module _ {T : Type 0} (s : Settings) (number : ℕ) (l : Lent T) (before after :
   return_refused (JournalFull out) pool legal refuses =
       let why = refuses.error.0 in
       let none = not_lent s why.0 l.id (GiveBack l.id) answers.Check after.observed (lent_whole s after.observed legal l.id answers.Check) refl why.1.unfinished in
-      (pool, row_none (returns.IsExpected (plan_of s) l.id) returns.next (ReturnEnds s l.id) gives (Err (faults.JournalFull, l)) before after refuses.same (refl, why, none))
+      (pool, row_none s (kinds.Return l.id) (ReturnEnds s l.id) asks (Err (faults.JournalFull, l)) before after refuses.same (refl, why, none))
   return_refused (OutOfMemory out) pool legal refuses =
       let why = refuses.error.0 in
       let none = not_lent s why.0 l.id (GiveBack l.id) answers.Check after.observed (lent_whole s after.observed legal l.id answers.Check) refl why.1.unfinished in
-      (pool, row_none (returns.IsExpected (plan_of s) l.id) returns.next (ReturnEnds s l.id) gives (Err (faults.OutOfMemory, l)) before after refuses.same (refl, why, none))
+      (pool, row_none s (kinds.Return l.id) (ReturnEnds s l.id) asks (Err (faults.OutOfMemory, l)) before after refuses.same (refl, why, none))
 
   -- an invalidation that failed
   pub invalidate_refused : (f : StepFault T) → l.pool ≡ number → IsLegal s after.observed → Refuses s (Invalidate l.id) None f before after → InvalidateSpec s number l (Err (return_fault f, l)) before after
   invalidate_refused (JournalFull out) pool legal refuses =
       let why = refuses.error.0 in
       let none = not_lent s why.0 l.id (Invalidate l.id) answers.Destroy after.observed (lent_whole s after.observed legal l.id answers.Destroy) refl why.1.unfinished in
-      (pool, row_none (invalidates.IsExpected l.id) invalidates.next (InvalidateEnds s l.id) begins (Err (faults.JournalFull, l)) before after refuses.same (refl, why, none))
+      (pool, row_none s (kinds.Invalidate l.id) (InvalidateEnds s l.id) asks (Err (faults.JournalFull, l)) before after refuses.same (refl, why, none))
   invalidate_refused (OutOfMemory out) pool legal refuses =
       let why = refuses.error.0 in
       let none = not_lent s why.0 l.id (Invalidate l.id) answers.Destroy after.observed (lent_whole s after.observed legal l.id answers.Destroy) refl why.1.unfinished in
-      (pool, row_none (invalidates.IsExpected l.id) invalidates.next (InvalidateEnds s l.id) begins (Err (faults.OutOfMemory, l)) before after refuses.same (refl, why, none))
+      (pool, row_none s (kinds.Invalidate l.id) (InvalidateEnds s l.id) asks (Err (faults.OutOfMemory, l)) before after refuses.same (refl, why, none))
 
   -- a note of a use that failed
   pub touch_refused : (f : StepFault T) → l.pool ≡ number → Refuses s (Use l.id) None f before after → TouchSpec s number l.pool l.id (Err (return_fault f)) before after
-  touch_refused (JournalFull out) pool refuses = (pool, row_none (touches.IsExpected l.id) touches.next (TouchEnds s l.id) uses (Err faults.JournalFull) before after refuses.same (refl, refuses.error.0))
-  touch_refused (OutOfMemory out) pool refuses = (pool, row_none (touches.IsExpected l.id) touches.next (TouchEnds s l.id) uses (Err faults.OutOfMemory) before after refuses.same (refl, refuses.error.0))
+  touch_refused (JournalFull out) pool refuses = (pool, row_none s (kinds.Touch l.id) (TouchEnds s l.id) asks (Err faults.JournalFull) before after refuses.same (refl, refuses.error.0))
+  touch_refused (OutOfMemory out) pool refuses = (pool, row_none s (kinds.Touch l.id) (TouchEnds s l.id) asks (Err faults.OutOfMemory) before after refuses.same (refl, refuses.error.0))
 
 -- an invalidation of an object of this pool that ended
 module _ {T : Type 0} (s : Settings) (number : ℕ) (l : Lent T) (x : Answer) (a b : CallerState) (pool : l.pool ≡ number) (goes : b.number ≡ a.number) (made : AppendsAnswer (Invalidate l.id) x a b) where
   pub invalidated : (c : CallerState) → x ≡ answers.Destroy → c.number ≡ b.number → AppendsAnswer (Destroyed l.id) answers.Freed b c → InvalidateSpec s number l (Ok returned.Destroyed) a c
   invalidated c is on freed = (
     pool,
-    row_at (invalidates.IsExpected l.id) invalidates.next (InvalidateEnds s l.id) begins invalidates.destroyed (Ok returned.Destroyed) a c
-        (trace_destroyed (invalidates.IsExpected l.id) invalidates.next begins invalidates.destroys invalidates.destroyed l.id (Invalidate l.id) x answers.Destroy a b c is made freed refl refl refl refl)
+    row_at s (kinds.Invalidate l.id) (InvalidateEnds s l.id) asks (stages.Ends ends.Destroyed) (Ok returned.Destroyed) a c
+        (trace_destroyed s (kinds.Invalidate l.id) asks (stages.Ends ends.Destroyed) l.id (Invalidate l.id) x answers.Destroy a b c is made freed refl refl refl)
         (refl, (_, _, ends_of _ _ b c on freed)),
   )
 
-  found : (to : invalidates.Stage) (y : Answer) → x ≡ y → invalidates.after_beginning y ≡ to → Trace (invalidates.IsExpected l.id) invalidates.next begins a b to
-  found to y is comes = trace_by (invalidates.IsExpected l.id) invalidates.next begins to (Invalidate l.id) x y a b is made refl comes
+  found : (to : Stage) (y : Answer) → x ≡ y → after_invalidating l.id y ≡ to → Trace s (kinds.Invalidate l.id) asks a b to
+  found to y is comes = trace_by s (kinds.Invalidate l.id) asks to (Invalidate l.id) x y a b is made refl comes
 
   pub found_gone : x ≡ answers.Gone → InvalidateSpec s number l (Ok returned.Gone) a b
   found_gone is = (
     pool,
-    row_at (invalidates.IsExpected l.id) invalidates.next (InvalidateEnds s l.id) begins invalidates.gone (Ok returned.Gone) a b (found invalidates.gone answers.Gone is refl) (refl, (_, _, ends_of _ _ a b goes made)),
+    row_at s (kinds.Invalidate l.id) (InvalidateEnds s l.id) asks (stages.Gone l.id) (Ok returned.Gone) a b (found (stages.Gone l.id) answers.Gone is refl) (refl, (_, _, ends_of _ _ a b goes made)),
   )
 
   pub found_unlent : x ≡ answers.Refused causes.NotLent → InvalidateSpec s number l (Err (faults.NotLent, l)) a b
   found_unlent is = (
     pool,
-    row_at (invalidates.IsExpected l.id) invalidates.next (InvalidateEnds s l.id) begins (invalidates.refused (answers.Refused causes.NotLent)) (Err (faults.NotLent, l)) a b
-        (found (invalidates.refused (answers.Refused causes.NotLent)) (answers.Refused causes.NotLent) is refl) (refl, (_, _, ends_of _ _ a b goes made)),
+    row_at s (kinds.Invalidate l.id) (InvalidateEnds s l.id) asks (stages.Ends ends.NotLent) (Err (faults.NotLent, l)) a b (found (stages.Ends ends.NotLent) (answers.Refused causes.NotLent) is refl)
+        (refl, (_, _, ends_of _ _ a b goes made)),
   )

@@ -18,7 +18,7 @@ use Rattle.pool_history.proofs.Ownership.{at_seam, last_here}
 use Rattle.pool_shared.specs.declared.faults.BorrowFault.{BorrowFault}
 use Rattle.pool_shared.specs.declared.lent.Lent.{Lent}
 use Rattle.pool_lock.proofs.Sections.{state_of}
-use Rattle.pool_calls.specs.BorrowRules.{Stage}
+use Rattle.pool_calls.specs.declared.stage.Stage.{Stage}
 use Rattle.pool_shared.specs.Borrows.{BorrowsFrom}
 use Rattle.pool_shared.specs.Promises.{IsAlone}
 use Rattle.pool_shared.specs.Traces.{Ends}

@@ -1,8 +1,8 @@
 -- The trace of additions, and of a fill.
-use Rattle.std.proofs.Common.{◌≡◌, ◌⊎◌, inl, inr, ℕ, ◌+◌, ◌^◌, ◌<◌, ◌≤◌, ◌==◌, if◌then◌else◌, Bool, true, false, List, [], ◌∷◌, length, Some, Result, Ok, Err, length-append, refl, sym, ap, ◌∙◌, subst, arith}
+use Rattle.std.proofs.Common.{◌≡◌, ℕ, ◌+◌, ◌^◌, ◌<◌, ◌≤◌, ◌==◌, Bool, true, false, List, [], ◌∷◌, length, Some, Result, Ok, Err, length-append, refl, sym, ap, subst, arith}
 use Rattle.std.specs.Prelude.{not, OnOk}
 use Rattle.std.proofs.lemmas.List.Filters.{length-filter_both}
-use Rattle.std.proofs.lemmas.List.Sums.{sum_by-cons, sum_by-append, count_by-le-length}
+use Rattle.std.proofs.lemmas.List.Sums.{count_by-le-length}
 use Rattle.pool_journal.specs.declared.entry.Entry.{Entry}
 use Rattle.pool_journal.specs.declared.input.Input.{Input}
 use Rattle.pool_journal.specs.declared.input.Input.TheVariants.{Add, Fill, Added, Destroyed}
@@ -11,35 +11,31 @@ use Rattle.pool_journal.specs.declared.input.Outcome.TheVariants as outcomes
 use Rattle.pool_journal.specs.declared.record.Phase.TheVariants as phases
 use Rattle.pool_journal.specs.declared.answer.Answer.{Answer}
 use Rattle.pool_journal.specs.declared.answer.Answer.TheVariants as answers
+use Rattle.pool_journal.specs.Entries.{move_of_entry, is_parked_answer}
 use Rattle.pool_settings.specs.declared.settings.Settings.{Settings}
 use Rattle.pool_core.specs.Legal.{entry_of}
-use Rattle.pool_journal.specs.declared.answer.Cause.TheVariants as causes
-use Rattle.pool_journal.specs.Entries.{move_of_entry, is_parked_answer}
-use Rattle.pool_stats.specs.Answers.{count_answers}
-use Rattle.pool_stats.specs.Ended.{one_more_if}
 use Rattle.pool_history.specs.CellInvariant.{entries_with_number}
 use Rattle.pool_history.specs.CallerStates.{CallerState, Advances}
+use Rattle.pool_lock.specs.Sections.{OwnsObject, AppendsAnswer}
+use Rattle.pool_calls.specs.declared.action.End.TheVariants as ends
+use Rattle.pool_calls.specs.declared.kind.Kind.TheVariants as kinds
+use Rattle.pool_calls.specs.declared.stage.Stage.TheVariants as stages
+use Rattle.pool_calls.specs.Table.{works, end_by}
 use Rattle.pool_shared.specs.declared.faults.Addition.{Addition}
 use Rattle.pool_shared.specs.declared.faults.Addition.TheVariants as additions
 use Rattle.pool_shared.specs.declared.faults.AddFault.{AddFault}
 use Rattle.pool_shared.specs.declared.faults.AddFault.TheVariants as faults
 use Rattle.pool_shared.specs.declared.faults.PoolFault.{PoolFault}
 use Rattle.pool_shared.specs.declared.faults.PoolFault.TheVariants as pool_faults
-use Rattle.pool_lock.specs.Sections.{OwnsObject, AppendsAnswer}
-use Rattle.pool_calls.specs.declared.plan.Plan.{Plan}
-use Rattle.pool_calls.specs.Turns.{Turn}
-use Rattle.pool_shared.specs.Traces.{turn_of, run_stages, AllExpected, Trace, EndsWithOwn}
+use Rattle.pool_shared.specs.Stages.{asks, complete}
+use Rattle.pool_shared.specs.Traces.{Trace, EndsWithOwn}
 use Rattle.pool_shared.specs.TraceToResult.{IsRoomFault}
 use Rattle.pool_shared.specs.Faults.{add_fault}
-use Rattle.pool_calls.specs.AddRules as addition
-use Rattle.pool_calls.specs.AddRules.{makes, after_making}
-use Rattle.pool_calls.specs.FillRules.{Stage, asks, adds, adding, through, failed, contradicted, count_of, after_asking, next, IsExpected}
-use Rattle.pool_shared.specs.Plans.{plan_of}
 use Rattle.pool_shared.specs.Adds.{ending, FinalState, AddEnds, AddSpec, IsAddFaultFrom, IsFailure, IsStocked}
 use Rattle.pool_shared.specs.Fills as fills
-use Rattle.pool_shared.specs.Fills.{FillEnds, FillsFrom, FillSpec, FillStep, parked_by}
-use Rattle.pool_shared.proofs.Traces.{trace_by, trace_on, trace_destroyed}
-use Rattle.pool_shared.proofs.TracesToResults.{row_at, row_none, row_on, trace_along}
+use Rattle.pool_shared.specs.Fills.{Parks, FillEnds, Fills, FillSpec, FillStep, Stocks, idle, filling, parked_by, parked_in}
+use Rattle.pool_shared.proofs.Traces.{trace_by, trace_on, trace_destroyed, count_one, count_miss}
+use Rattle.pool_shared.proofs.TracesToResults.{row_at, row_none, row_on}
 
 stocked_leaves : {E : Type 0} (s : Settings) (input : Input) (r : Result Addition (AddFault E)) (me : CallerState) → IsStocked r → EndsWithOwn me → FinalState s input r me
 stocked_leaves s input (Ok a) me is ends = ends
@@ -52,16 +48,15 @@ stocked_leaves s input (Err faults.OutOfMemory) me is ends = absurd is
 
 -- an addition that found a place
 pub added : {E : Type 0} (s : Settings) (i : ℕ) (x : Answer) (r : Result Addition (AddFault E)) (a b c : CallerState) → x ≡ answers.Make i → AppendsAnswer Add x a b
-    → IsStocked r → Trace (addition.IsExpected (plan_of s)) addition.next (makes i) b c (ending r) → EndsWithOwn c → AddSpec s r a c
-added s i x r a b c is made stocked w ends =
-    row_at (addition.IsExpected (plan_of s)) addition.next (AddEnds s) addition.asks (ending r) r a c
-    (trace_on (addition.IsExpected (plan_of s)) addition.next addition.asks (makes i) (ending r) a b c (trace_by (addition.IsExpected (plan_of s)) addition.next addition.asks (makes i) Add x (answers.Make i) a b is made refl refl) w)
-    (refl, stocked_leaves s Add r c stocked ends)
+    → IsStocked r → Stocks s i (ending r) (filling r) (parked_in r) b c → EndsWithOwn c → AddSpec s r a c
+added s i x r a b c is made stocked w own =
+    row_at s kinds.Add (AddEnds s) asks (ending r) r a c (trace_on s kinds.Add asks (works i true 0) (ending r) a b c (trace_by s kinds.Add asks (works i true 0) Add x (answers.Make i) a b is made refl refl) w.in_addition)
+    (refl, stocked_leaves s Add r c stocked own)
 
 -- an addition whose first critical section failed
 pub add_refused : {E : Type 0} (s : Settings) (f : PoolFault) (before after : CallerState) → after.appended ≡ before.appended → IsRoomFault s Add f after → AddSpec {E = E} s (Err (add_fault f)) before after
-add_refused {E} s pool_faults.JournalFull before after same why = row_none (addition.IsExpected (plan_of s)) addition.next (AddEnds {E = E} s) addition.asks (Err faults.JournalFull) before after same (refl, why)
-add_refused {E} s pool_faults.OutOfMemory before after same why = row_none (addition.IsExpected (plan_of s)) addition.next (AddEnds {E = E} s) addition.asks (Err faults.OutOfMemory) before after same (refl, why)
+add_refused {E} s pool_faults.JournalFull before after same why = row_none s kinds.Add (AddEnds {E = E} s) asks (Err faults.JournalFull) before after same (refl, why)
+add_refused {E} s pool_faults.OutOfMemory before after same why = row_none s kinds.Add (AddEnds {E = E} s) asks (Err faults.OutOfMemory) before after same (refl, why)
 add_refused s pool_faults.Closed before after same why = absurd why.1
 
 -- it has no error of the factory
@@ -70,29 +65,35 @@ not_from_factory make passivate pool_faults.Closed = tt
 not_from_factory make passivate pool_faults.JournalFull = tt
 not_from_factory make passivate pool_faults.OutOfMemory = tt
 
--- a new object that can't become idle is destroyed
-destroyed_by : (s : Settings) (i : ℕ) (o : Outcome) → IsFailure s o → after_making i o answers.Destroy ≡ addition.destroys i o
-destroyed_by s i outcomes.CreateTestFailed failure = refl
-destroyed_by s i outcomes.PassivateFailed failure = refl
-destroyed_by s i _ failure = absurd failure
+-- ---- an object that was made, in an addition or in a fill
+parks_none : (i : ℕ) (o : Outcome) (x : Answer) (a b c : CallerState) → x ≡ answers.Destroy → AppendsAnswer (Added i o) x a b → AppendsAnswer (Destroyed i) answers.Freed b c → Parks 0 a c
+parks_none i o x a b c is made freed = count_miss is_parked_answer 0 (Destroyed i) answers.Freed answers.Freed a b c refl freed (count_one is_parked_answer (Added i o) x answers.Destroy a b is made) refl
 
-possible_failure : (s : Settings) (o : Outcome) → IsFailure s o → addition.IsPossibleOutcome (plan_of s) o
-possible_failure s outcomes.CreateTestFailed failure = failure
-possible_failure s outcomes.PassivateFailed failure = refl
-possible_failure s _ failure = absurd failure
+-- one that can't become idle is destroyed
+pub turned_out : (s : Settings) (i : ℕ) (o : Outcome) (x : Answer) (a b c : CallerState) → IsFailure s o → x ≡ answers.Destroy → AppendsAnswer (Added i o) x a b → AppendsAnswer (Destroyed i) answers.Freed b c
+    → Stocks s i (stages.Ends (end_by o)) (stages.Ends (end_by o)) 0 a c
+turned_out s i outcomes.CreateTestFailed x a b c failure is made freed =
+    record {
+      in_addition = trace_destroyed s kinds.Add (works i true 0) (stages.Ends ends.CreateTestFailed) i (Added i outcomes.CreateTestFailed) x answers.Destroy a b c is made freed (refl, failure) refl refl;
+      in_fill = trace_destroyed s kinds.Fill (works i true 0) (stages.Ends ends.CreateTestFailed) i (Added i outcomes.CreateTestFailed) x answers.Destroy a b c is made freed (refl, failure) refl refl;
+      parked = parks_none i outcomes.CreateTestFailed x a b c is made freed;
+    }
+turned_out s i outcomes.PassivateFailed x a b c failure is made freed =
+    record {
+      in_addition = trace_destroyed s kinds.Add (works i true 0) (stages.Ends ends.PassivateFailed) i (Added i outcomes.PassivateFailed) x answers.Destroy a b c is made freed (refl, refl) refl refl;
+      in_fill = trace_destroyed s kinds.Fill (works i true 0) (stages.Ends ends.PassivateFailed) i (Added i outcomes.PassivateFailed) x answers.Destroy a b c is made freed (refl, refl) refl refl;
+      parked = parks_none i outcomes.PassivateFailed x a b c is made freed;
+    }
+turned_out s i _ x a b c failure is made freed = absurd failure
 
-pub turned_out : (s : Settings) (i : ℕ) (o : Outcome) (a : Answer) (before mid after : CallerState) → IsFailure s o → a ≡ answers.Destroy → AppendsAnswer (Added i o) a before mid → AppendsAnswer (Destroyed i) answers.Freed mid after
-    → Trace (addition.IsExpected (plan_of s)) addition.next (makes i) before after (addition.gone o)
-turned_out s i o a before mid after failure is made freed =
-    trace_destroyed (addition.IsExpected (plan_of s)) addition.next (makes i) (addition.destroys i o) (addition.gone o) i (Added i o) a answers.Destroy before mid after is made freed
-    (refl, possible_failure s o failure) (destroyed_by s i o failure) refl refl
-
--- the pool was closed before the new object could become idle
-pub shut_out : (s : Settings) (i : ℕ) (a : Answer) (before mid after : CallerState) → a ≡ answers.Destroy → AppendsAnswer (Added i outcomes.Good) a before mid → AppendsAnswer (Destroyed i) answers.Freed mid after
-    → Trace (addition.IsExpected (plan_of s)) addition.next (makes i) before after (addition.gone outcomes.Good)
-shut_out s i a before mid after is made freed =
-    trace_destroyed (addition.IsExpected (plan_of s)) addition.next (makes i) (addition.destroys i outcomes.Good) (addition.gone outcomes.Good) i (Added i outcomes.Good) a answers.Destroy before mid after is made freed
-    (refl, tt) refl refl refl
+-- the pool was closed before it could become idle
+pub shut_out : (s : Settings) (i : ℕ) (x : Answer) (a b c : CallerState) → x ≡ answers.Destroy → AppendsAnswer (Added i outcomes.Good) x a b → AppendsAnswer (Destroyed i) answers.Freed b c → Stocks s i (stages.Ends ends.Destroyed) asks 0 a c
+shut_out s i x a b c is made freed =
+    record {
+      in_addition = trace_destroyed s kinds.Add (works i true 0) (stages.Ends ends.Destroyed) i (Added i outcomes.Good) x answers.Destroy a b c is made freed (refl, refl) refl refl;
+      in_fill = trace_destroyed s kinds.Fill (works i true 0) asks i (Added i outcomes.Good) x answers.Destroy a b c is made freed (refl, refl) refl refl;
+      parked = parks_none i outcomes.Good x a b c is made freed;
+    }
 
 -- the caller then owns it, and has to destroy it
 pub has_shut_out : (i : ℕ) (a : Answer) (before after : CallerState) → a ≡ answers.Destroy → AppendsAnswer (Added i outcomes.Good) a before after → (new : Bool) × OwnsObject after i phases.Destroying new
@@ -107,119 +108,45 @@ owns_new input i x before after is made moved =
     let m : AppendsAnswer input (answers.Make i) before after = subst (λ b. AppendsAnswer input b before after) is made in
     (true, record { appended = before.appended; e = entry_of before.number m.0 input (answers.Make i); last = m.1.more; moved = moved before.number m.0; is_new = refl })
 
--- an addition within a fill
-module _ (s : Settings) (n : ℕ) where
-  due_within : (st : addition.Stage) (input : Input) → addition.IsExpected (plan_of s) st input → IsExpected (plan_of s) (adding n st) input
-  due_within addition.asks input due = due
-  due_within (addition.makes i) input due = due
-  due_within (addition.destroys i o) input due = due
-  due_within _ input due = absurd due
+-- ---- a turn of a fill
+module _ (s : Settings) where
+  turn_made : {E : Type 0} (r : Result Addition (AddFault E)) (before after : CallerState) → IsStocked r → Trace s kinds.Fill asks before after (filling r) → Parks (parked_in r) before after → EndsWithOwn after → FillStep s r before after
+  turn_made (Ok additions.Idle) before after is w parks own = (w, parks, own)
+  turn_made (Ok additions.Destroyed) before after is w parks own = (w, parks, own)
+  turn_made (Ok additions.NoPlace) before after is w parks own = absurd is
+  turn_made (Err faults.Closed) before after is w parks own = absurd is
+  turn_made (Err (faults.MakeFailed f)) before after is w parks own = row_at s kinds.Fill (FillEnds s) asks (stages.Ends ends.MakeFailed) (Err (faults.MakeFailed f)) before after w (refl, own)
+  turn_made {E} (Err faults.CreateTestFailed) before after is w parks own = row_at s kinds.Fill (FillEnds {E = E} s) asks (stages.Ends ends.CreateTestFailed) (Err faults.CreateTestFailed) before after w (refl, own)
+  turn_made (Err (faults.PassivateFailed f)) before after is w parks own = row_at s kinds.Fill (FillEnds s) asks (stages.Ends ends.PassivateFailed) (Err (faults.PassivateFailed f)) before after w (refl, own)
+  turn_made (Err faults.JournalFull) before after is w parks own = absurd is
+  turn_made (Err faults.OutOfMemory) before after is w parks own = absurd is
 
-  goes_within : (st : addition.Stage) (t : Turn) → addition.IsExpected (plan_of s) st t.input → next (adding n st) t ≡ adding n (addition.next st t)
-  goes_within addition.asks t due = refl
-  goes_within (addition.makes i) t due = refl
-  goes_within (addition.destroys i o) t due = refl
-  goes_within _ t due = absurd due
-
-  turn_made : {E : Type 0} (r : Result Addition (AddFault E)) (before after : CallerState) → IsStocked r → Trace (IsExpected (plan_of s)) next (asks n) before after (adding n (ending r)) → EndsWithOwn after → FillStep s n r before after
-  turn_made (Ok additions.Idle) before after is w ends = (w, ends)
-  turn_made (Ok additions.Destroyed) before after is w ends = (w, ends)
-  turn_made (Ok additions.NoPlace) before after is w ends = absurd is
-  turn_made (Err faults.Closed) before after is w ends = absurd is
-  turn_made (Err (faults.MakeFailed f)) before after is w ends = row_at (IsExpected (plan_of s)) next (FillEnds s) (asks n) (failed n outcomes.MakeFailed) (Err (faults.MakeFailed f)) before after w ((n, refl), ends)
-  turn_made {E} (Err faults.CreateTestFailed) before after is w ends = row_at (IsExpected (plan_of s)) next (FillEnds {E = E} s) (asks n) (failed n outcomes.CreateTestFailed) (Err faults.CreateTestFailed) before after w ((n, refl), ends)
-  turn_made (Err (faults.PassivateFailed f)) before after is w ends = row_at (IsExpected (plan_of s)) next (FillEnds s) (asks n) (failed n outcomes.PassivateFailed) (Err (faults.PassivateFailed f)) before after w ((n, refl), ends)
-  turn_made (Err faults.JournalFull) before after is w ends = absurd is
-  turn_made (Err faults.OutOfMemory) before after is w ends = absurd is
-
-  -- a turn of a fill that found a place
-  pub turned : {E : Type 0} (i : ℕ) (a : Answer) (r : Result Addition (AddFault E)) (before mid after : CallerState) → a ≡ answers.Make i → AppendsAnswer Fill a before mid
-      → IsStocked r → Trace (addition.IsExpected (plan_of s)) addition.next (makes i) mid after (ending r) → EndsWithOwn after → FillStep s n r before after
-  turned i a r before mid after is made stocked w ends =
+  -- a turn that found a place
+  pub turned : {E : Type 0} (i : ℕ) (x : Answer) (r : Result Addition (AddFault E)) (before mid after : CallerState) → x ≡ answers.Make i → AppendsAnswer Fill x before mid
+      → IsStocked r → Stocks s i (ending r) (filling r) (parked_in r) mid after → EndsWithOwn after → FillStep s r before after
+  turned i x r before mid after is made stocked w own =
+      let none : Parks 0 before mid = count_one is_parked_answer Fill x (answers.Make i) before mid is made in
+      let parks : Parks (parked_in r) mid after = w.parked in
       turn_made r before after stocked
-      (trace_on (IsExpected (plan_of s)) next (asks n) (adds n (makes i)) (adding n (ending r)) before mid after (trace_by (IsExpected (plan_of s)) next (asks n) (adds n (makes i)) Fill a (answers.Make i) before mid is made refl refl)
-      (trace_along (addition.IsExpected (plan_of s)) addition.next (IsExpected (plan_of s)) next (adding n) (λ st. Unit {0}) (λ st t is due. tt) (λ st input is due. due_within st input due)
-      (λ st t is due. goes_within st t due) (makes i) (ending r) mid after tt w)) ends
+      (trace_on s kinds.Fill asks (works i true 0) (filling r) before mid after (trace_by s kinds.Fill asks (works i true 0) Fill x (answers.Make i) before mid is made refl refl) w.in_fill)
+      (omega (arith, none, parks)) own
+
+  -- a turn that found no place, or none missing
+  pub enough : (E : Type 0) (x : Answer) (before after : CallerState) → x ≡ answers.Enough → AppendsAnswer Fill x before after → EndsWithOwn after → FillStep {E = E} s (Ok additions.NoPlace) before after
+  enough E x before after is made own = (trace_by s kinds.Fill asks complete Fill x answers.Enough before after is made refl refl, count_one is_parked_answer Fill x answers.Enough before after is made, own)
+
+  pub no_place : (E : Type 0) (x : Answer) (before after : CallerState) → x ≡ answers.NoPlace → AppendsAnswer Fill x before after → EndsWithOwn after → FillStep {E = E} s (Ok additions.NoPlace) before after
+  no_place E x before after is made own = (trace_by s kinds.Fill asks complete Fill x answers.NoPlace before after is made refl refl, count_one is_parked_answer Fill x answers.NoPlace before after is made, own)
 
   -- a turn whose critical section failed
-  pub refused_turn : {E : Type 0} (f : PoolFault) (before after : CallerState) → after.appended ≡ before.appended → IsRoomFault s Fill f after → FillStep {E = E} s n (Err (add_fault f)) before after
-  refused_turn {E} pool_faults.JournalFull before after same why = row_none (IsExpected (plan_of s)) next (FillEnds {E = E} s) (asks n) (Err faults.JournalFull) before after same ((n, refl), why)
-  refused_turn {E} pool_faults.OutOfMemory before after same why = row_none (IsExpected (plan_of s)) next (FillEnds {E = E} s) (asks n) (Err faults.OutOfMemory) before after same ((n, refl), why)
+  pub refused_turn : {E : Type 0} (f : PoolFault) (before after : CallerState) → after.appended ≡ before.appended → IsRoomFault s Fill f after → FillStep {E = E} s (Err (add_fault f)) before after
+  refused_turn {E} pool_faults.JournalFull before after same why = row_none s kinds.Fill (FillEnds {E = E} s) asks (Err faults.JournalFull) before after same (refl, why)
+  refused_turn {E} pool_faults.OutOfMemory before after same why = row_none s kinds.Fill (FillEnds {E = E} s) asks (Err faults.OutOfMemory) before after same (refl, why)
   refused_turn pool_faults.Closed before after same why = absurd why.1
 
-abbrev is_contradicted : Stage → Bool
-is_contradicted (contradicted n a) = true
-is_contradicted _ = false
-
--- a fill that has parked this many counts the answer if it is Parked, unless the pool gives that answer to no fill
-abbrev Counts : ℕ → Answer → Stage → Type 0
-Counts n a after = (is_contradicted after ≡ true) ⊎ (count_of after ≡ one_more_if (is_parked_answer a) n)
-
-counted_asking : (n : ℕ) (a : Answer) → Counts n a (after_asking n a)
-counted_asking n (answers.Make i) = inr (omega arith)
-counted_asking n answers.Enough = inr (omega arith)
-counted_asking n answers.NoPlace = inr (omega arith)
-counted_asking n _ = inl refl
-
-counted_placed : (n : ℕ) (a : Answer) → Counts n a (adding n (addition.after_asking a))
-counted_placed n (answers.Make i) = inr (omega arith)
-counted_placed n answers.NoPlace = inr (omega arith)
-counted_placed n (answers.Refused causes.Closed) = inr (omega arith)
-counted_placed n (answers.Refused _) = inl refl
-counted_placed n _ = inl refl
-
-counted_made : (n i : ℕ) (o : Outcome) (a : Answer) → Counts n a (adding n (after_making i o a))
-counted_made n i outcomes.Good answers.Parked = inr refl
-counted_made n i outcomes.Good answers.Destroy = inr (omega arith)
-counted_made n i outcomes.Good _ = inl refl
-counted_made n i outcomes.MakeFailed answers.Freed = inr (omega arith)
-counted_made n i outcomes.MakeFailed _ = inl refl
-counted_made n i _ answers.Destroy = inr (omega arith)
-counted_made n i _ _ = inl refl
-
-counted_reported : (n i : ℕ) (input : Input) (a : Answer) → Counts n a (adding n (addition.after_report i input a))
-counted_reported n i (Added j o) a = counted_made n i o a
-counted_reported n i _ a = inl refl
-
-counted_freed : (n : ℕ) (o : Outcome) (a : Answer) → Counts n a (adding n (addition.after_destroying o a))
-counted_freed n outcomes.Good answers.Freed = inr (omega arith)
-counted_freed n _ answers.Freed = inr (omega arith)
-counted_freed n o _ = inl refl
-
-counted_adding : (p : Plan) (n : ℕ) (stage : addition.Stage) (t : Turn) → addition.IsExpected p stage t.input → Counts n t.answer (adding n (addition.next stage t))
-counted_adding p n addition.asks t due = counted_placed n t.answer
-counted_adding p n (makes i) t due = counted_reported n i t.input t.answer
-counted_adding p n (addition.destroys i o) t due = counted_freed n o t.answer
-counted_adding p n _ t due = absurd due
-
-counted_next : (p : Plan) (stage : Stage) (t : Turn) → IsExpected p stage t.input → Counts (count_of stage) t.answer (next stage t)
-counted_next p (asks n) t due = counted_asking n t.answer
-counted_next p (adds n stage) t due = counted_adding p n stage t due
-counted_next p _ t due = absurd due
-
-contradicted_stays : (stage : Stage) (es : List Entry) → is_contradicted stage ≡ true → is_contradicted (run_stages next stage es) ≡ true
-contradicted_stays stage [] is = is
-contradicted_stays (contradicted n a) (e ∷ es) is = contradicted_stays (contradicted n a) es is
-contradicted_stays _ (e ∷ es) is = absurd (cc is)
-
-counted_run : (p : Plan) (stage : Stage) (es : List Entry) → AllExpected (IsExpected p) next stage es → is_contradicted (run_stages next stage es) ≡ false
-    → count_of (run_stages next stage es) ≡ count_of stage + count_answers is_parked_answer es
-counted_run p stage [] due fine = omega arith
-counted_run p stage (e ∷ es) due fine =
-    elim (counted_next p stage (turn_of e) due.0) [
-      | inl bad ↦ absurd (cc (sym (contradicted_stays (next stage (turn_of e)) es bad) ∙ fine))
-      | inr one ↦ omega (arith, one, sum_by-cons (λ (x : Entry). if is_parked_answer x.answer then 1 else 0) e es, counted_run p (next stage (turn_of e)) es due.1 fine)
-    ]
-
--- the number of a fill is that of the Parked answers to it
-counted : (s : Settings) (to : Stage) (first now : CallerState) → is_contradicted to ≡ false → Trace (IsExpected (plan_of s)) next (asks 0) first now to → parked_by now ≡ parked_by first + count_of to
-counted s to first now fine w =
-    let run = counted_run (plan_of s) (asks 0) w.es w.due (ap is_contradicted w.comes ∙ fine) in
-    omega (arith, run, ap count_of w.comes, ap (count_answers is_parked_answer) w.made, sum_by-append (λ (x : Entry). if is_parked_answer x.answer then 1 else 0) first.appended w.es)
-
--- it is at most the number of the entries that the caller appended
-pub bounded_parked : (s : Settings) (n : ℕ) (first now : CallerState) → Trace (IsExpected (plan_of s)) next (asks 0) first now (asks n) → n ≤ length now.appended
-bounded_parked s n first now w = omega (arith, counted s (asks n) first now refl w, count_by-le-length (λ (x : Entry). is_parked_answer x.answer) now.appended)
+-- the number that a fill parked is at most the number of the entries that the caller appended
+pub bounded_parked : (n : ℕ) (first now : CallerState) → Parks n first now → n ≤ length now.appended
+bounded_parked n first now parks = omega (arith, parks, count_by-le-length (λ (x : Entry). is_parked_answer x.answer) now.appended)
 
 own_within : (n : ℕ) (J : List Entry) → length (entries_with_number n J) ≤ length J
 own_within n J = omega (arith, length-filter_both (λ (e : Entry). e.caller == n) (λ e. not (e.caller == n)) (λ e. refl) J)
@@ -235,26 +162,32 @@ pub either_way : {A E : Type 0} (r : Result A E) (n : ℕ) → n + 1 < 2 ^ 64 �
 either_way (Ok a) n bounded = bounded
 either_way (Err f) n bounded = tt
 
--- the invariant of a fill that has parked this many: the number that it returns
+-- the invariant of a fill that returns this number, if no more is missing
 abbrev pub IsFilling : Settings → ℕ → CallerState → CallerState → Type 0
-IsFilling s reported first now = (n : ℕ) × (reported ≡ n) × Trace (IsExpected (plan_of s)) next (asks 0) first now (asks n)
+IsFilling s n first now = Trace s kinds.Fill asks first now asks × Parks n first now
 
 -- a fill after one more turn
-module _ (s : Settings) (n reported : ℕ) (first now after : CallerState) (reporting : reported ≡ n) (w : Trace (IsExpected (plan_of s)) next (asks 0) first now (asks n)) where
-  turned_to : (a b : Addition) → a ≡ b → Trace (IsExpected (plan_of s)) next (asks n) now after (fills.turned n a) → Trace (IsExpected (plan_of s)) next (asks 0) first after (fills.turned n b)
-  turned_to a b is turn = trace_on (IsExpected (plan_of s)) next (asks 0) (asks n) (fills.turned n b) first now after w (subst (λ x. Trace (IsExpected (plan_of s)) next (asks n) now after (fills.turned n x)) is turn)
+module _ (s : Settings) (n : ℕ) (first now after : CallerState) (so_far : IsFilling s n first now) (a : Addition) (turn : Trace s kinds.Fill asks now after (fills.turned a)) (parks : Parks (idle a) now after) where
+  turned_to : (b : Addition) → a ≡ b → Trace s kinds.Fill asks first after (fills.turned b)
+  turned_to b is = trace_on s kinds.Fill asks asks (fills.turned b) first now after so_far.0 (subst (λ x. Trace s kinds.Fill asks now after (fills.turned x)) is turn)
 
-  pub one_parked : (a : Addition) (more : ℕ) → a ≡ additions.Idle → more ≡ reported + 1 → Trace (IsExpected (plan_of s)) next (asks n) now after (fills.turned n a) → IsFilling s more first after
-  one_parked a more is one turn = (n + 1, omega (arith, one, reporting), turned_to a additions.Idle is turn)
+  parks_to : (b : Addition) (more : ℕ) → a ≡ b → more ≡ n + idle b → Parks more first after
+  parks_to b more is one =
+      let before = so_far.1 in
+      let later : Parks (idle b) now after = subst (λ x. Parks (idle x) now after) is parks in
+      omega (arith, before, later, one)
 
-  pub one_lost : (a : Addition) → a ≡ additions.Destroyed → Trace (IsExpected (plan_of s)) next (asks n) now after (fills.turned n a) → IsFilling s reported first after
-  one_lost a is turn = (n, reporting, turned_to a additions.Destroyed is turn)
+  pub one_parked : (more : ℕ) → a ≡ additions.Idle → more ≡ n + 1 → IsFilling s more first after
+  one_parked more is one = (turned_to additions.Idle is, parks_to additions.Idle more is one)
 
-  pub all_filled : {E : Type 0} (a : Addition) → a ≡ additions.NoPlace → Trace (IsExpected (plan_of s)) next (asks n) now after (fills.turned n a) → EndsWithOwn after → FillSpec {E = E} s (Ok reported) first after
-  all_filled {E} a is turn ends = row_at (IsExpected (plan_of s)) next (FillEnds {E = E} s) (asks 0) (through n) (Ok reported) first after (turned_to a additions.NoPlace is turn) (ap through (sym reporting), ends)
+  pub one_lost : a ≡ additions.Destroyed → IsFilling s n first after
+  one_lost is = (turned_to additions.Destroyed is, parks_to additions.Destroyed n is (omega arith))
 
-  pub all_counted : (a : Addition) → a ≡ additions.NoPlace → Trace (IsExpected (plan_of s)) next (asks n) now after (fills.turned n a) → parked_by after ≡ parked_by first + reported
-  all_counted a is turn = omega (arith, reporting, counted s (through n) first after refl (turned_to a additions.NoPlace is turn))
+  pub all_counted : a ≡ additions.NoPlace → Parks n first after
+  all_counted is = parks_to additions.NoPlace n is (omega arith)
 
-  pub filled_part : {E : Type 0} (f : AddFault E) → FillsFrom s (asks n) (Err f) now after → FillSpec s (Err f) first after
-  filled_part f turn = row_on (IsExpected (plan_of s)) next (FillEnds s) (asks 0) (asks n) (Err f) first now after w turn
+  pub all_filled : {E : Type 0} → a ≡ additions.NoPlace → EndsWithOwn after → FillSpec {E = E} s (Ok n) first after
+  all_filled {E} is own = (row_at s kinds.Fill (FillEnds {E = E} s) asks complete (Ok n) first after (turned_to additions.NoPlace is) (refl, own), all_counted is)
+
+pub filled_part : {E : Type 0} (s : Settings) (n : ℕ) (first now after : CallerState) → IsFilling s n first now → (f : AddFault E) → Fills s (Err f) now after → FillSpec s (Err f) first after
+filled_part s n first now after so_far f turn = (row_on s kinds.Fill (FillEnds s) asks asks (Err f) first now after so_far.0 turn, tt)

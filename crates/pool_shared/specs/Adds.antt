@@ -1,13 +1,15 @@
--- The trace of an addition, by the rules of additions, and its result.
+-- The trace of an addition, and its result.
 use Rattle.std.specs.Prelude.{◌≡◌, true, Result, Ok, Err}
 use Rattle.pool_journal.specs.declared.input.Input.{Input}
 use Rattle.pool_journal.specs.declared.input.Input.TheVariants.{Add}
 use Rattle.pool_journal.specs.declared.input.Outcome.{Outcome}
 use Rattle.pool_journal.specs.declared.input.Outcome.TheVariants as outcomes
-use Rattle.pool_journal.specs.declared.answer.Answer.TheVariants as answers
-use Rattle.pool_journal.specs.declared.answer.Cause.TheVariants as causes
 use Rattle.pool_settings.specs.declared.settings.Settings.{Settings}
-use Rattle.pool_calls.specs.AddRules.{Stage, asks, parked, gone, refused, next, IsExpected}
+use Rattle.pool_calls.specs.declared.action.End.{End}
+use Rattle.pool_calls.specs.declared.action.End.TheVariants as ends
+use Rattle.pool_calls.specs.declared.kind.Kind.TheVariants as kinds
+use Rattle.pool_calls.specs.declared.stage.Stage.{Stage}
+use Rattle.pool_calls.specs.declared.stage.Stage.TheVariants as stages
 use Rattle.pool_history.specs.CallerStates.{CallerState}
 use Rattle.pool_lock.specs.Sections.{IsFullFor, IsShortFor}
 use Rattle.pool_shared.specs.declared.faults.Addition.{Addition}
@@ -16,23 +18,23 @@ use Rattle.pool_shared.specs.declared.faults.AddFault.{AddFault}
 use Rattle.pool_shared.specs.declared.faults.AddFault.TheVariants as faults
 use Rattle.pool_shared.specs.declared.adding.PrepareError.{PrepareError}
 use Rattle.pool_shared.specs.declared.adding.PrepareError.TheVariants as unfit
-use Rattle.pool_shared.specs.Plans.{plan_of}
+use Rattle.pool_shared.specs.Stages.{asks}
 use Rattle.pool_shared.specs.Traces.{EndsWithOwn}
 use Rattle.pool_shared.specs.TraceToResult.{TraceToResult}
 
--- the stage of an addition in which nothing failed
-abbrev pub shelved : Addition → Stage
-shelved additions.Idle = parked
-shelved additions.Destroyed = gone outcomes.Good
-shelved additions.NoPlace = refused answers.NoPlace
+-- the end of an addition in which nothing failed
+abbrev pub shelved : Addition → End
+shelved additions.Idle = ends.Parked
+shelved additions.Destroyed = ends.Destroyed
+shelved additions.NoPlace = ends.NoPlace
 
 -- the stage of an addition with this result; if it asks, that critical section failed
 abbrev pub ending : {E : Type 0} → Result Addition (AddFault E) → Stage
-ending (Ok a) = shelved a
-ending (Err faults.Closed) = refused (answers.Refused causes.Closed)
-ending (Err (faults.MakeFailed f)) = gone outcomes.MakeFailed
-ending (Err faults.CreateTestFailed) = gone outcomes.CreateTestFailed
-ending (Err (faults.PassivateFailed f)) = gone outcomes.PassivateFailed
+ending (Ok a) = stages.Ends (shelved a)
+ending (Err faults.Closed) = stages.Ends ends.Closed
+ending (Err (faults.MakeFailed f)) = stages.Ends ends.MakeFailed
+ending (Err faults.CreateTestFailed) = stages.Ends ends.CreateTestFailed
+ending (Err (faults.PassivateFailed f)) = stages.Ends ends.PassivateFailed
 ending (Err faults.JournalFull) = asks
 ending (Err faults.OutOfMemory) = asks
 
@@ -49,7 +51,7 @@ AddEnds s stage result me = (stage ≡ ending result) × FinalState s Add result
 
 -- the trace of an addition
 abbrev pub AddSpec : {E : Type 0} → Settings → Result Addition (AddFault E) → CallerState → CallerState → Type 0
-AddSpec s result before after = TraceToResult (IsExpected (plan_of s)) next (AddEnds s) asks result before after
+AddSpec s result before after = TraceToResult s kinds.Add (AddEnds s) asks result before after
 
 -- an error of the factory is from the call that failed, `make` or `passivate`
 abbrev pub IsAddFaultFrom : {E : Type 0} → (E → Type 0) → (E → Type 0) → AddFault E → Type 0

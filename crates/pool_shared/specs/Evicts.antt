@@ -1,5 +1,5 @@
--- The trace of an eviction run, by the rules of eviction runs, and its result.
-use Rattle.std.specs.Prelude.{◌≡◌, ℕ, zero, suc, Option, None, Some, Result, Ok, Err}
+-- The trace of an eviction run, and its result.
+use Rattle.std.specs.Prelude.{ℕ, Option, None, Some, Result, Ok, Err, IfOk}
 use Rattle.pool_journal.specs.declared.input.Input.TheVariants.{Evict, EvictNext}
 use Rattle.pool_journal.specs.declared.input.Outcome.{Outcome}
 use Rattle.pool_journal.specs.declared.input.Outcome.TheVariants as outcomes
@@ -7,8 +7,12 @@ use Rattle.pool_journal.specs.declared.answer.Answer.{Answer}
 use Rattle.pool_journal.specs.declared.answer.Answer.TheVariants as answers
 use Rattle.pool_settings.specs.declared.settings.Settings.{Settings}
 use Rattle.pool_core.specs.Reply.{reply}
-use Rattle.pool_calls.specs.declared.evicting.EvictRun as counts
-use Rattle.pool_calls.specs.EvictRules.{Stage, begins, examines, through, closed, one_more, one_gone, next, IsExpected}
+use Rattle.pool_calls.specs.declared.action.End.TheVariants as ends
+use Rattle.pool_calls.specs.declared.kind.Kind.TheVariants as kinds
+use Rattle.pool_calls.specs.declared.stage.Request.TheVariants as requests
+use Rattle.pool_calls.specs.declared.stage.Stage.{Stage}
+use Rattle.pool_calls.specs.declared.stage.Stage.TheVariants as stages
+use Rattle.pool_calls.specs.Table.{go_through}
 use Rattle.pool_history.specs.CallerStates.{CallerState}
 use Rattle.pool_history.specs.Ownership.{IsTestOutcome}
 use Rattle.pool_shared.specs.declared.evicting.EvictRun.{EvictRun}
@@ -16,13 +20,10 @@ use Rattle.pool_shared.specs.declared.evicting.Disposition.{Disposition}
 use Rattle.pool_shared.specs.declared.evicting.Disposition.TheVariants as fates
 use Rattle.pool_shared.specs.declared.faults.PoolFault.{PoolFault}
 use Rattle.pool_shared.specs.declared.faults.PoolFault.TheVariants as faults
-use Rattle.pool_shared.specs.Plans.{plan_of}
-use Rattle.pool_shared.specs.Traces.{EndsWithOwn}
+use Rattle.pool_shared.specs.Counts.{Counts, Frees}
+use Rattle.pool_shared.specs.Stages.{asks, takes, complete}
+use Rattle.pool_shared.specs.Traces.{Trace, EndsWithOwn}
 use Rattle.pool_shared.specs.TraceToResult.{TraceToResult, IsRoomFault, IsRoomFaultAt}
-
--- the counts of a run, as the rules have them
-abbrev pub counts_of : EvictRun → counts.EvictRun
-counts_of run = record { examined = run.examined; destroyed = run.destroyed }
 
 -- an EvictNext with this answer destroys nothing
 abbrev pub IsSpared : Answer → Type 0
@@ -35,34 +36,43 @@ IsStopped s f me = (at : ℕ) × IsRoomFaultAt s EvictNext f me at × IsSpared (
 
 -- the result of an eviction run at this stage, with the state of its caller
 abbrev pub EvictEnds : Settings → Stage → Result EvictRun PoolFault → CallerState → Type 0
-EvictEnds s closed (Err faults.Closed) me = EndsWithOwn me
-EvictEnds s (through run) (Ok r) me = (counts_of r ≡ run) × EndsWithOwn me
-EvictEnds s (examines zero run) (Ok r) me = (counts_of r ≡ run) × EndsWithOwn me
-EvictEnds s begins (Err f) me = IsRoomFault s Evict f me
-EvictEnds s (examines (suc left) run) (Err f) me = IsStopped s f me
+EvictEnds s (stages.Ends ends.Closed) (Err faults.Closed) me = EndsWithOwn me
+EvictEnds s (stages.Ends ends.Complete) (Ok run) me = EndsWithOwn me
+EvictEnds s (stages.Asks requests.Ask) (Err f) me = IsRoomFault s Evict f me
+EvictEnds s (stages.Asks (requests.Next left)) (Err f) me = IsStopped s f me
 EvictEnds s _ _ me = ⊥
 
--- the trace of an eviction run from one stage to its result
+-- in the entries that the caller appended since, a run examined and destroyed these numbers of objects
+abbrev pub HasCounts : EvictRun → CallerState → CallerState → Type 0
+HasCounts run before after = Counts kinds.Evict run.examined before after × Frees run.destroyed before after
+
+-- the trace of an eviction run from one stage to its result, and its counts
 abbrev pub EvictsFrom : Settings → Stage → Result EvictRun PoolFault → CallerState → CallerState → Type 0
-EvictsFrom s from result before after = TraceToResult (IsExpected (plan_of s)) next (EvictEnds s) from result before after
+EvictsFrom s from result before after = TraceToResult s kinds.Evict (EvictEnds s) from result before after × IfOk result (λ run. HasCounts run before after)
 
 -- the trace of a whole eviction run
 abbrev pub EvictSpec : Settings → Result EvictRun PoolFault → CallerState → CallerState → Type 0
-EvictSpec s result before after = EvictsFrom s begins result before after
+EvictSpec s result before after = EvictsFrom s asks result before after
 
--- the counts of a run, with this fate of the last object that it examined
-abbrev pub fared : counts.EvictRun → Disposition → counts.EvictRun
-fared run fates.Kept = run
-fared run fates.Destroyed = one_gone run
+-- the number of objects that an examination with this fate of its object destroyed
+abbrev pub lost : Disposition → ℕ
+lost fates.Kept = 0
+lost fates.Destroyed = 1
 
--- the stage of a run after a test
-abbrev pub after_test : ℕ → counts.EvictRun → Disposition → Stage
-after_test left run fate = examines left (fared run fate)
+-- an examination of one object, or the test in it: between these stages, with these numbers of examined and destroyed objects
+pub record Examines (s : Settings) (from to : ℕ → Stage) (n m : ℕ) (before after : CallerState) : Type 0 where
+  pub trace : (left : ℕ) → Trace s kinds.Evict (from left) before after (to left)
+  pub examined : Counts kinds.Evict n before after
+  pub destroyed : Frees m before after
 
--- the stage of a run that examined one object, which up to `left` more may follow, or found none
-abbrev pub after_one : ℕ → counts.EvictRun → Option Disposition → Stage
-after_one left run (Some fate) = examines left (fared (one_more run) fate)
-after_one left run None = through run
+-- a run goes on after an object, which up to `left` more may follow
+abbrev pub goes_on : ℕ → Stage
+goes_on left = go_through kinds.Evict left
+
+-- an examination that returned this fate of its object, or found none
+abbrev pub HasExamined : Settings → Option Disposition → CallerState → CallerState → Type 0
+HasExamined s (Some fate) before after = Examines s takes goes_on 1 (lost fate) before after
+HasExamined s None before after = Examines s takes (λ left. complete) 0 0 before after
 
 -- an outcome of a failed test
 abbrev pub IsFailedTest : Outcome → Type 0

@@ -1,6 +1,8 @@
 pub mod Pools
 pub mod Faults
 pub mod Plans
+pub mod Stages
+pub mod Counts
 pub mod Traces
 pub mod Touches
 pub mod Borrows

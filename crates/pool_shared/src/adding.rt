@@ -4,10 +4,11 @@ ghost use Rattle.pool_journal.specs.declared.input.Outcome.TheVariants as outcom
 ghost use Rattle.pool_journal.specs.declared.record.Phase.TheVariants as phases;
 ghost use Rattle.pool_history.specs.CallerStates.{Advances};
 ghost use Rattle.pool_lock.specs.Sections.{OwnsObject};
-ghost use Rattle.pool_shared.specs.Traces.{Trace, EndsWithOwn};
-ghost use Rattle.pool_calls.specs.AddRules.{makes, gone, next, IsExpected};
-ghost use Rattle.pool_shared.specs.Plans.{plan_of};
+ghost use Rattle.pool_calls.specs.declared.stage.Stage.TheVariants as stages;
+ghost use Rattle.pool_calls.specs.Table.{end_by};
+ghost use Rattle.pool_shared.specs.Traces.{EndsWithOwn};
 ghost use Rattle.pool_shared.specs.Adds.{shelved, ending, AddSpec, IsAddFaultFrom, IsWhyUnfit, IsFailure, IsPlaced, IsStocked};
+ghost use Rattle.pool_shared.specs.Fills.{turned, idle, filling, parked_in, Stocks};
 
 use crate::faults::{AddFault, Addition};
 use crate::pool::SharedPool;
@@ -50,7 +51,8 @@ impl<T: Drop, E: Drop, F: Factory<T, E> + Drop, C: Clock + Drop, B: Room> Shared
         requires owns { (new : _) × OwnsObject me.old id phases.Adding new }
         requires outcome { IsFailure B.settings outcome }
         ensures advances { Advances B.settings me.old me.new }
-        ensures trace { Trace (IsExpected (plan_of B.settings)) next (makes id) me.old me.new (gone outcome) }
+        ensures trace { Stocks B.settings id (stages.Ends (end_by outcome))
+            (stages.Ends (end_by outcome)) 0 me.old me.new }
         ensures ends { EndsWithOwn me.new }
     {
         match self.complete(rt, me, Input::Added { id, outcome }) {
@@ -67,8 +69,8 @@ impl<T: Drop, E: Drop, F: Factory<T, E> + Drop, C: Clock + Drop, B: Room> Shared
         requires passive { F.passive value }
         ensures advances { Advances B.settings me.old me.new }
         ensures placed { IsPlaced result }
-        ensures trace { Trace (IsExpected (plan_of B.settings)) next (makes id) me.old me.new
-            (shelved result) }
+        ensures trace { Stocks B.settings id (stages.Ends (shelved result)) (turned result)
+            (idle result) me.old me.new }
         ensures ends { EndsWithOwn me.new }
     {
         let outcome = Outcome::Good;
@@ -97,8 +99,8 @@ impl<T: Drop, E: Drop, F: Factory<T, E> + Drop, C: Clock + Drop, B: Room> Shared
         requires owns { (new : _) × OwnsObject me.old id phases.Adding new }
         ensures advances { Advances B.settings me.old me.new }
         ensures appended { IsStocked result }
-        ensures trace { Trace (IsExpected (plan_of B.settings)) next (makes id) me.old me.new
-            (ending result) }
+        ensures trace { Stocks B.settings id (ending result) (filling result) (parked_in result)
+            me.old me.new }
         ensures ends { EndsWithOwn me.new }
         ensures fault { IfErr result (IsAddFaultFrom F.from_make F.from_passivate) }
     {
@@ -126,8 +128,8 @@ impl<T: Drop, E: Drop, F: Factory<T, E> + Drop, C: Clock + Drop, B: Room> Shared
         requires owns { (new : _) × OwnsObject me.old id phases.Adding new }
         ensures advances { Advances B.settings me.old me.new }
         ensures appended { IsStocked result }
-        ensures trace { Trace (IsExpected (plan_of B.settings)) next (makes id) me.old me.new
-            (ending result) }
+        ensures trace { Stocks B.settings id (ending result) (filling result) (parked_in result)
+            me.old me.new }
         ensures ends { EndsWithOwn me.new }
         ensures fault { IfErr result (IsAddFaultFrom F.from_make F.from_passivate) }
     {

@@ -12,9 +12,12 @@ ghost use Rattle.pool_lock.specs.Sections.{OwnsObject, IsPermitted, AppendsAnswe
 ghost use Rattle.pool_shared.specs.Promises.{IsAlone};
 ghost use Rattle.pool_shared.specs.Traces.{Trace, Ends};
 ghost use Rattle.pool_shared.specs.TraceToResult.{IsRoomFault};
-ghost use Rattle.pool_calls.specs.BorrowRules.{asks, readies, lent, after_asking, after_freeing, next, IsExpected, IsFailure};
-ghost use Rattle.pool_shared.specs.Plans.{plan_of};
-ghost use Rattle.pool_shared.specs.Borrows.{BorrowsFrom, BorrowSpec, IsLentWell, IsFaultFrom, IsWhyUnready, IsFound, taken_to};
+ghost use Rattle.pool_calls.specs.declared.action.End.TheVariants as ends;
+ghost use Rattle.pool_calls.specs.declared.kind.Kind.TheVariants as kinds;
+ghost use Rattle.pool_calls.specs.declared.stage.Stage.TheVariants as stages;
+ghost use Rattle.pool_calls.specs.Table.{works, after_borrowing};
+ghost use Rattle.pool_shared.specs.Stages.{asks};
+ghost use Rattle.pool_shared.specs.Borrows.{BorrowsFrom, BorrowSpec, IsLentWell, IsFaultFrom, IsWhyUnready, IsFailure, IsFound, lost, taken_to};
 
 use crate::faults::{BorrowFault, PoolFault};
 use crate::lent::Lent;
@@ -90,12 +93,12 @@ impl<T: Drop, E: Drop, F: Factory<T, E> + Drop, C: Clock + Drop, B: Room> Shared
         ensures advances { Advances B.settings me.old me.new }
         ensures found { IfOk result (λ r. IsFound r.0) }
         ensures trace { IfOk result (λ r. Trace
-            (IsExpected (plan_of B.settings) began) next asks me.old me.new
-            (after_asking r.0)) }
+            B.settings (kinds.Borrow began) asks me.old me.new
+            (after_borrowing r.0)) }
         ensures ends { IfOk result (λ r. Ends (inputs.Borrow began) r.0 me.new) }
         ensures returned { IfOk result (λ r. ReturnsValue F.passive r.0 None r.1) }
         ensures none { IfErr result (λ f. Trace
-            (IsExpected (plan_of B.settings) began) next asks me.old me.new asks) }
+            B.settings (kinds.Borrow began) asks me.old me.new asks) }
         ensures refused { IfErr result (λ f.
             IsRoomFault B.settings (inputs.Borrow began) f me.new) }
     {
@@ -162,11 +165,11 @@ impl<T: Drop, E: Drop, F: Factory<T, E> + Drop, C: Clock + Drop, B: Room> Shared
         value: T,
     )
         requires { (new : Bool) × OwnsObject me.old id phases.Readying new
-            × IsFailure (plan_of B.settings) new outcome }
+            × IsFailure B.settings new outcome }
         ensures advances { Advances B.settings me.old me.new }
-        ensures trace { (began : ℕ) (new : Bool) → IsFailure (plan_of B.settings) new outcome
-            → Trace (IsExpected (plan_of B.settings) began) next (readies id new) me.old me.new
-            (after_freeing new outcome) }
+        ensures trace { (began : ℕ) (new : Bool) → IsFailure B.settings new outcome
+            → Trace B.settings (kinds.Borrow began) (works id new 0) me.old me.new
+            (lost new outcome) }
         ensures ends { Ends (inputs.Destroyed id) answers.Freed me.new }
     {
         match self.complete(rt, me, Input::Ready { id, outcome }) {
@@ -181,8 +184,8 @@ impl<T: Drop, E: Drop, F: Factory<T, E> + Drop, C: Clock + Drop, B: Room> Shared
     fn lend<R: Wait>(&self, rt: &R, me: &mut Caller<B>, id: u64, value: T) -> Lent<T>
         requires owns { (new : Bool) × OwnsObject me.old id phases.Readying new }
         ensures advances { Advances B.settings me.old me.new }
-        ensures trace { (began : ℕ) (new : Bool)
-            → Trace (IsExpected (plan_of B.settings) began) next (readies id new) me.old me.new (lent id) }
+        ensures trace { (began : ℕ) (new : Bool) → Trace B.settings (kinds.Borrow began)
+            (works id new 0) me.old me.new (stages.Ends (ends.Lent id)) }
         ensures ends { Ends (inputs.Ready id outcomes.Good) answers.Lent me.new }
         ensures lent { result ≡ record { pool = self.now.number; id = id; value = value } }
     {
@@ -201,8 +204,8 @@ impl<T: Drop, E: Drop, F: Factory<T, E> + Drop, C: Clock + Drop, B: Room> Shared
     fn lend_taken<R: Wait>(&self, rt: &R, me: &mut Caller<B>, id: u64, value: T) -> Option<Lent<T>>
         requires owns { OwnsObject me.old id phases.Readying false }
         ensures advances { Advances B.settings me.old me.new }
-        ensures trace { (began : ℕ) → Trace (IsExpected (plan_of B.settings) began) next
-            (readies id false) me.old me.new (taken_to id result) }
+        ensures trace { (began : ℕ) → Trace B.settings (kinds.Borrow began)
+            (works id false 0) me.old me.new (taken_to id result) }
         ensures lent { IfSome result (λ l. (l.pool ≡ self.now.number) × (l.id ≡ id)
             × IsLentWell B.settings F.active F.valid l.value) }
         ensures ends { IfSome result (λ l. Ends
@@ -232,7 +235,7 @@ impl<T: Drop, E: Drop, F: Factory<T, E> + Drop, C: Clock + Drop, B: Room> Shared
         requires owns { OwnsObject me.old id phases.Readying true }
         ensures advances { Advances B.settings me.old me.new }
         ensures spec { (began : ℕ) → BorrowsFrom B.settings self.now.number began
-            (readies id true) result me.old me.new }
+            (works id true 0) result me.old me.new }
         ensures lent { IfOk result (λ l. IsLentWell B.settings F.active F.valid l.value) }
         ensures fault { IfErr result (IsFaultFrom F.from_make F.from_activate) }
     {
@@ -262,7 +265,7 @@ impl<T: Drop, E: Drop, F: Factory<T, E> + Drop, C: Clock + Drop, B: Room> Shared
         requires owns { OwnsObject me.old id phases.Readying true }
         ensures advances { Advances B.settings me.old me.new }
         ensures spec { (began : ℕ) → BorrowsFrom B.settings self.now.number began
-            (readies id true) result me.old me.new }
+            (works id true 0) result me.old me.new }
         ensures lent { IfOk result (λ l. IsLentWell B.settings F.active F.valid l.value) }
         ensures fault { IfErr result (IsFaultFrom F.from_make F.from_activate) }
     {
@@ -296,7 +299,7 @@ impl<T: Drop, E: Drop, F: Factory<T, E> + Drop, C: Clock + Drop, B: Room> Shared
             me.old
             me.new) }
         ensures again { IfNone result (Trace
-            (IsExpected (plan_of B.settings) began) next asks me.old me.new asks) }
+            B.settings (kinds.Borrow began) asks me.old me.new asks) }
         ensures lent { IfSome result (λ r. IfOk r
             (λ l. IsLentWell B.settings F.active F.valid l.value)) }
         ensures fault { IfSome result (λ r. IfErr r (IsFaultFrom F.from_make F.from_activate)) }

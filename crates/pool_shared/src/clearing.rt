@@ -1,9 +1,9 @@
 //! A clear and a close, in critical sections.
 ghost use Rattle.std.specs.Prelude.{◌≡◌, ℕ, IfOk};
-ghost use Rattle.pool_journal.specs.declared.input.Input.TheVariants as inputs;
+ghost use Rattle.pool_calls.specs.declared.kind.Kind.TheVariants as kinds;
 ghost use Rattle.pool_history.specs.CallerStates.{Advances, IsConsistent};
 ghost use Rattle.pool_shared.specs.Traces.{EndsWithOwn};
-ghost use Rattle.pool_shared.specs.Clears.{Sweeps, ClearSpec, CloseSpec};
+ghost use Rattle.pool_shared.specs.Clears.{MaySweep, Sweeps, ClearSpec, CloseSpec};
 
 use crate::faults::PoolFault;
 use crate::pool::SharedPool;
@@ -29,8 +29,8 @@ impl<T: Drop, E: Drop, F: Factory<T, E> + Drop, C: Clock + Drop, B: Room> Shared
         requires knows { IsConsistent B.settings me.old }
         requires ended { EndsWithOwn me.old }
         ensures advances { Advances B.settings me.old me.new }
-        ensures trace { (first : inputs.the_data)
-            → Sweeps B.settings first count result me.old me.new }
+        ensures trace { (k : kinds.the_data) → MaySweep k
+            → Sweeps B.settings k count result me.old me.new }
         ensures ends { IfOk result (λ n. EndsWithOwn me.new) }
     {
         for taken in 0..count {

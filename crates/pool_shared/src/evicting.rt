@@ -1,14 +1,11 @@
 //! An eviction run, in critical sections.
-ghost use Rattle.std.specs.Prelude.{◌≡◌, ◌<◌, ℕ, suc, IfOk, OnOk, IfErr, OnErr};
+ghost use Rattle.std.specs.Prelude.{◌≡◌, ◌+◌, ◌<◌, false, IfOk, OnOk, IfErr, OnErr};
 ghost use Rattle.pool_journal.specs.declared.record.Phase.TheVariants as phases;
 ghost use Rattle.pool_history.specs.CallerStates.{Advances, IsConsistent};
 ghost use Rattle.pool_lock.specs.Sections.{OwnsObject};
-ghost use Rattle.pool_shared.specs.Traces.{Trace, EndsWithOwn};
-ghost use Rattle.pool_calls.specs.declared.evicting.EvictRun as counts;
-ghost use Rattle.pool_calls.specs.EvictRules.{examines, tests, none_yet, one_more, next, IsExpected};
-ghost use Rattle.pool_shared.specs.Plans.{plan_of};
-ghost use Rattle.pool_shared.specs.declared.evicting.Disposition.TheVariants as fates;
-ghost use Rattle.pool_shared.specs.Evicts.{counts_of, fared, after_test, after_one, IsStopped, EvictsFrom, EvictSpec, IsFailedTest, IsUnfit};
+ghost use Rattle.pool_calls.specs.Table.{works};
+ghost use Rattle.pool_shared.specs.Traces.{EndsWithOwn};
+ghost use Rattle.pool_shared.specs.Evicts.{lost, goes_on, Examines, HasExamined, IsStopped, EvictsFrom, EvictSpec, IsFailedTest, IsUnfit};
 
 use crate::faults::PoolFault;
 use crate::pool::SharedPool;
@@ -36,7 +33,8 @@ impl EvictRun {
     fn count_in(self, fate: Disposition) -> EvictRun
         requires examined { self.examined < u64.MAX }
         requires destroyed { self.destroyed < u64.MAX }
-        ensures { counts_of result ≡ fared (one_more (counts_of self)) fate }
+        ensures examined { result.examined ≡ self.examined + 1 }
+        ensures destroyed { result.destroyed ≡ self.destroyed + lost fate }
     {
         let destroyed = match fate {
             Disposition::Kept => self.destroyed,
@@ -90,9 +88,7 @@ impl<T: Drop, E: Drop, F: Factory<T, E> + Drop, C: Clock + Drop, B: Room> Shared
         requires owns { (new : _) × OwnsObject me.old id phases.Testing new }
         requires outcome { IsFailedTest outcome }
         ensures advances { Advances B.settings me.old me.new }
-        ensures trace { (left : ℕ) (run : counts.EvictRun)
-            → Trace (IsExpected (plan_of B.settings)) next (tests id left run) me.old me.new
-            (after_test left run fates.Destroyed) }
+        ensures trace { Examines B.settings (works id false) goes_on 0 1 me.old me.new }
         ensures ends { EndsWithOwn me.new }
     {
         match self.complete(rt, me, Input::Tested { id, outcome }) {
@@ -108,9 +104,7 @@ impl<T: Drop, E: Drop, F: Factory<T, E> + Drop, C: Clock + Drop, B: Room> Shared
         requires owns { (new : _) × OwnsObject me.old id phases.Testing new }
         requires passive { F.passive value }
         ensures advances { Advances B.settings me.old me.new }
-        ensures trace { (left : ℕ) (run : counts.EvictRun)
-            → Trace (IsExpected (plan_of B.settings)) next (tests id left run) me.old me.new
-            (after_test left run result) }
+        ensures trace { Examines B.settings (works id false) goes_on 0 (lost result) me.old me.new }
         ensures ends { EndsWithOwn me.new }
     {
         let outcome = Outcome::Good;
@@ -132,9 +126,7 @@ impl<T: Drop, E: Drop, F: Factory<T, E> + Drop, C: Clock + Drop, B: Room> Shared
     fn test<R: Wait>(&self, rt: &R, me: &mut Caller<B>, id: u64, value: T) -> Disposition
         requires owns { (new : _) × OwnsObject me.old id phases.Testing new }
         ensures advances { Advances B.settings me.old me.new }
-        ensures trace { (left : ℕ) (run : counts.EvictRun)
-            → Trace (IsExpected (plan_of B.settings)) next (tests id left run) me.old me.new
-            (after_test left run result) }
+        ensures trace { Examines B.settings (works id false) goes_on 0 (lost result) me.old me.new }
         ensures ends { EndsWithOwn me.new }
     {
         let mut value = value;
@@ -154,9 +146,7 @@ impl<T: Drop, E: Drop, F: Factory<T, E> + Drop, C: Clock + Drop, B: Room> Shared
         me: &mut Caller<B>,
     ) -> Result<Option<Disposition>, PoolFault>
         ensures advances { Advances B.settings me.old me.new }
-        ensures trace { IfOk result (λ fate. (left : ℕ) (run : counts.EvictRun)
-            → Trace (IsExpected (plan_of B.settings)) next (examines (suc left) run) me.old me.new
-            (after_one left run fate)) }
+        ensures trace { IfOk result (λ fate. HasExamined B.settings fate me.old me.new) }
         ensures ends { OnOk result (EndsWithOwn me.new) }
         ensures same { OnErr result (me.new.appended ≡ me.old.appended) }
         ensures refused { IfErr result (λ f. IsStopped B.settings f me.new) }
@@ -183,7 +173,7 @@ impl<T: Drop, E: Drop, F: Factory<T, E> + Drop, C: Clock + Drop, B: Room> Shared
         requires knows { IsConsistent B.settings me.old }
         requires ended { EndsWithOwn me.old }
         ensures advances { Advances B.settings me.old me.new }
-        ensures spec { EvictsFrom B.settings (examines count none_yet) result me.old me.new }
+        ensures spec { EvictsFrom B.settings (goes_on count) result me.old me.new }
     {
         let mut run = EvictRun {
             examined: 0,

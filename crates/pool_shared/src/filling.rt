@@ -1,5 +1,5 @@
 //! A fill of the idle queue, in critical sections.
-ghost use Rattle.std.specs.Prelude.{◌≡◌, ℕ, ◌+◌, ◌<◌, ◌^◌, length, IfOk, OnOk, IfErr};
+ghost use Rattle.std.specs.Prelude.{◌≡◌, ◌+◌, ◌<◌, ◌^◌, length, IfOk, OnOk, IfErr};
 ghost use Rattle.pool_history.specs.CallerStates.{Advances};
 ghost use Rattle.pool_shared.specs.Adds.{IsAddFaultFrom};
 ghost use Rattle.pool_shared.specs.Fills.{FillStep, FillSpec, parked_by};
@@ -21,7 +21,7 @@ impl<T: Drop, E: Drop, F: Factory<T, E> + Drop, C: Clock + Drop, B: Room> Shared
     // Takes one turn of a fill. Returns `NoPlace` if no place is free or no object is missing.
     fn add_missing<R: Wait>(&self, rt: &R, me: &mut Caller<B>) -> Result<Addition, AddFault<E>>
         ensures advances { Advances B.settings me.old me.new }
-        ensures turn { (n : ℕ) → FillStep B.settings n result me.old me.new }
+        ensures turn { FillStep B.settings result me.old me.new }
         ensures bounded { OnOk result (length me.old.appended + 1 < 2 ^ 64) }
         ensures fault { IfErr result (IsAddFaultFrom F.from_make F.from_passivate) }
     {

@@ -2,8 +2,8 @@
 ghost use Rattle.std.specs.Prelude.{◌≡◌};
 ghost use Rattle.pool_history.specs.CallerStates.{Advances, IsConsistent};
 ghost use Rattle.pool_shared.specs.Traces.{EndsWithOwn};
-ghost use Rattle.pool_calls.specs.ReclaimRules.{reclaims};
-ghost use Rattle.pool_shared.specs.Reclaims.{ReclaimsFrom, ReclaimSpec, Removes};
+ghost use Rattle.pool_calls.specs.declared.kind.Kind.TheVariants as kinds;
+ghost use Rattle.pool_shared.specs.Reclaims.{MayReclaim, Reclaims, ReclaimSpec, Removes};
 
 use crate::faults::PoolFault;
 use crate::pool::SharedPool;
@@ -29,7 +29,8 @@ impl<T: Drop, E: Drop, F: Factory<T, E> + Drop, C: Clock + Drop, B: Room> Shared
         requires knows { IsConsistent B.settings me.old }
         requires ended { EndsWithOwn me.old }
         ensures advances { Advances B.settings me.old me.new }
-        ensures spec { ReclaimsFrom B.settings (reclaims count 0) result me.old me.new }
+        ensures trace { (k : kinds.the_data) → MayReclaim k
+            → Reclaims B.settings k count result me.old me.new }
     {
         for taken in 0..count {
             match self.run_section_without_value(rt, me, Input::ReclaimNext)? {

@@ -1,5 +1,5 @@
 //! A return, in critical sections.
-ghost use Rattle.std.specs.Prelude.{◌≡◌, ◌≢◌, true, Ok, IfErr};
+ghost use Rattle.std.specs.Prelude.{◌≡◌, ◌≢◌, false, Ok, IfErr};
 ghost use Rattle.pool_journal.specs.declared.answer.Answer.TheVariants as answers;
 ghost use Rattle.pool_journal.specs.declared.input.Input.TheVariants as inputs;
 ghost use Rattle.pool_journal.specs.declared.input.Outcome.TheVariants as outcomes;
@@ -7,9 +7,9 @@ ghost use Rattle.pool_journal.specs.declared.record.Phase.TheVariants as phases;
 ghost use Rattle.pool_history.specs.CallerStates.{Advances};
 ghost use Rattle.pool_lock.specs.Sections.{OwnsObject};
 ghost use Rattle.pool_shared.specs.Traces.{Trace, EndsWithOwn};
-ghost use Rattle.pool_calls.specs.ReturnRules.{checks, next, IsPossibleOutcome, IsExpected};
-ghost use Rattle.pool_shared.specs.Plans.{plan_of};
-ghost use Rattle.pool_shared.specs.Returns.{done, ReturnSpec};
+ghost use Rattle.pool_calls.specs.declared.kind.Kind.TheVariants as kinds;
+ghost use Rattle.pool_calls.specs.Table.{works};
+ghost use Rattle.pool_shared.specs.Returns.{done, IsPossibleOutcome, ReturnSpec};
 ghost use Rattle.pool_shared.specs.declared.faults.Returned.TheVariants as returned;
 
 use crate::faults::{ReturnFault, Returned};
@@ -37,10 +37,10 @@ impl<T: Drop, E: Drop, F: Factory<T, E> + Drop, C: Clock + Drop, B: Room> Shared
         value: T,
     )
         requires owns { (new : _) × OwnsObject me.old id phases.Returning new }
-        requires outcome { (outcome ≢ outcomes.Good) × IsPossibleOutcome (plan_of B.settings) outcome }
+        requires outcome { (outcome ≢ outcomes.Good) × IsPossibleOutcome B.settings id outcome }
         ensures advances { Advances B.settings me.old me.new }
-        ensures trace { Trace (IsExpected (plan_of B.settings) id) next checks me.old me.new
-            (done returned.Destroyed) }
+        ensures trace { Trace B.settings (kinds.Return id) (works id false 0) me.old me.new
+            (done id returned.Destroyed) }
         ensures ends { EndsWithOwn me.new }
     {
         match self.complete(rt, me, Input::Park { id, outcome }) {
@@ -56,7 +56,8 @@ impl<T: Drop, E: Drop, F: Factory<T, E> + Drop, C: Clock + Drop, B: Room> Shared
         requires owns { (new : _) × OwnsObject me.old id phases.Returning new }
         requires passive { F.passive value }
         ensures advances { Advances B.settings me.old me.new }
-        ensures trace { Trace (IsExpected (plan_of B.settings) id) next checks me.old me.new (done result) }
+        ensures trace { Trace B.settings (kinds.Return id) (works id false 0) me.old me.new
+            (done id result) }
         ensures ends { EndsWithOwn me.new }
     {
         let outcome = Outcome::Good;
@@ -78,7 +79,8 @@ impl<T: Drop, E: Drop, F: Factory<T, E> + Drop, C: Clock + Drop, B: Room> Shared
     fn check<R: Wait>(&self, rt: &R, me: &mut Caller<B>, id: u64, value: T) -> Returned
         requires owns { (new : _) × OwnsObject me.old id phases.Returning new }
         ensures advances { Advances B.settings me.old me.new }
-        ensures trace { Trace (IsExpected (plan_of B.settings) id) next checks me.old me.new (done result) }
+        ensures trace { Trace B.settings (kinds.Return id) (works id false 0) me.old me.new
+            (done id result) }
         ensures ends { EndsWithOwn me.new }
     {
         let mut value = value;

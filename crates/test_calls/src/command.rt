@@ -37,7 +37,6 @@ pub(crate) enum Start {
     Fill,
     Evict,
     Reclaim,
-    Maintain,
     Clear,
     Close,
 }
@@ -112,7 +111,6 @@ fn start_of(word: &str) -> Result<Start, LineError> {
         "fill" => Ok(Start::Fill),
         "evict" => Ok(Start::Evict),
         "reclaim" => Ok(Start::Reclaim),
-        "maintain" => Ok(Start::Maintain),
         "clear" => Ok(Start::Clear),
         "close" => Ok(Start::Close),
         _ => Err(LineError::NotACommand),

@@ -4,9 +4,8 @@
 //! PASSIVATES`: the number of times that a call that waits is overtaken at most, and `yes` or `no` for each hook of the
 //! factory. Each further line is a command:
 //!
-//! - `borrow SLOT CALLER AT` begins a call in one of the slots 0 to 15. So do `add`, `fill`, `evict`, `reclaim`,
-//!   `maintain`, `clear` and `close`; and `return SLOT CALLER AT ID TOKEN`, `invalidate` and `detach`; and
-//!   `touch SLOT CALLER AT ID`.
+//! - `borrow SLOT CALLER AT` begins a call in one of the slots 0 to 15. So do `add`, `fill`, `evict`, `reclaim`, `clear`
+//!   and `close`; and `return SLOT CALLER AT ID TOKEN`, `invalidate` and `detach`; and `touch SLOT CALLER AT ID`.
 //! - `report SLOT CALLER AT REPORT` goes on with it. The report is `go-on`, `made TOKEN`, `succeeded`, `failed`,
 //!   `woken`, `room-made`, `no-room` or `given-up`.
 //! - `cut` cuts the journal, and `journal` prints it.
@@ -14,10 +13,10 @@
 //! The answer to a call begins with its next action: `step`, `make-room`, `make ID`, one of `activate`, `validate`,
 //! `passivate` and `destroy` with `ID TOKEN`, `sleep TICKET UNTIL`, `done lent ID TOKEN` or `done END`. It begins with
 //! `misfit` if the report does not fit. If the call is one over several objects, what it has come to follows: `made N` of
-//! a fill, `examined N` and `destroyed N` of an eviction, `reclaimed N`, and `destroyed N` of a clear or a close; of
-//! maintenance that of an eviction, of a reclaim and of a fill. A line `low` follows if the journal is to be cut soon.
-//! The answer to `cut` and `journal` begins with that word and the number of entries; the entries of the journal follow.
-//! Each answer then has a line `wake TICKET` for each call to wake, and ends with `counts IDLE LENT RESERVED WAITING`.
+//! a fill, `examined N` and `destroyed N` of an eviction, `reclaimed N`, and `destroyed N` of a clear or a close. A line
+//! `low` follows if the journal is to be cut soon. The answer to `cut` and `journal` begins with that word and the number
+//! of entries; the entries of the journal follow. Each answer then has a line `wake TICKET` for each call to wake, and
+//! ends with `counts IDLE LENT RESERVED WAITING`.
 //!
 //! The status is 0. It is 2 for an error of the script, and 3 for an error of a stream or of memory. One line on
 //! standard error reports the error.

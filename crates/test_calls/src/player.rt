@@ -73,7 +73,6 @@ impl Player {
             Start::Fill => self.pool.fill(),
             Start::Evict => self.pool.evict(),
             Start::Reclaim => self.pool.reclaim(),
-            Start::Maintain => self.pool.maintain(),
             Start::Clear => self.pool.clear(),
             Start::Close => self.pool.close(),
         }

@@ -1,7 +1,7 @@
 //! The lines of an answer.
 
 use crate::player::Progress;
-use pool_calls::{Action, End, Operation, StepFailure};
+use pool_calls::{Action, End, Kind, Operation, StepFailure};
 use pool_driver::{DrivenPool, Effects};
 use pool_journal::{Entry, print_entry};
 use std::alloc::Global;
@@ -23,20 +23,15 @@ pub(crate) fn write_progress<W: Write>(out: &mut W, progress: Option<Progress>) 
 
 /// Writes what a call over several objects has come to.
 fn write_tally<W: Write>(out: &mut W, operation: Operation) -> io::Result<()> {
-    match operation {
-        Operation::Fill(call) => write_number(out, "made", call.parked()),
-        Operation::Evict(call) => {
-            write_number(out, "examined", call.examined())?;
-            write_number(out, "destroyed", call.destroyed())
+    let tally = operation.tally();
+    match operation.kind() {
+        Kind::Fill => write_number(out, "made", tally.objects),
+        Kind::Evict => {
+            write_number(out, "examined", tally.objects)?;
+            write_number(out, "destroyed", tally.freed)
         }
-        Operation::Reclaim(call) => write_number(out, "reclaimed", call.reclaimed()),
-        Operation::Clear(call) => write_number(out, "destroyed", call.destroyed()),
-        Operation::Maintain(call) => {
-            write_number(out, "examined", call.examined())?;
-            write_number(out, "destroyed", call.destroyed())?;
-            write_number(out, "reclaimed", call.reclaimed())?;
-            write_number(out, "made", call.parked())
-        }
+        Kind::Reclaim => write_number(out, "reclaimed", tally.objects),
+        Kind::Clear | Kind::Close => write_number(out, "destroyed", tally.objects),
         _ => Ok(()),
     }
 }

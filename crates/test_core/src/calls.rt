@@ -1,7 +1,7 @@
 //! Borrows and returns, action by action.
 
 use crate::checks::expect_equal;
-use pool_calls::{Action, BorrowCall, End, Event, Plan, ReturnCall, StepFailure};
+use pool_calls::{Action, End, Event, Kind, Operation, Plan, StepFailure};
 use pool_journal::{Answer, Cause, Input, Outcome, When};
 use std::process::Abort;
 
@@ -31,27 +31,25 @@ const FREES: Action = Action::Step(Input::Destroyed { id: 5 });
 
 const GIVES: Action = Action::Step(Input::GiveBack { id: 5 });
 
-// Reports one event after another to a borrow, and compares the action before each, and the end.
-fn borrow(rt: &impl Abort, all: bool, turns: &[(Action, Event)], end: End) {
-    let mut call = BorrowCall::new(plan(all), 70);
+// Reports one event after another to a call, and compares the action before each, and the end. Then nothing fits.
+fn play(rt: &impl Abort, all: bool, kind: Kind, turns: &[(Action, Event)], end: End) {
+    let mut call = Operation::new(plan(all), kind);
     for (action, event) in turns {
         expect_equal(rt, call.action(), *action);
         expect_equal(rt, call.tell(*event), true);
     }
     expect_equal(rt, call.action(), Action::Done(end));
     expect_equal(rt, call.tell(Event::Succeeded), false);
+    expect_equal(rt, call.tell(Event::Woken), false);
     expect_equal(rt, call.tell(Event::Cancelled), false);
 }
 
-// The same of a return.
+fn borrow(rt: &impl Abort, all: bool, turns: &[(Action, Event)], end: End) {
+    play(rt, all, Kind::Borrow(70), turns, end);
+}
+
 fn give_back(rt: &impl Abort, all: bool, turns: &[(Action, Event)], end: End) {
-    let mut call = ReturnCall::new(plan(all), 5);
-    for (action, event) in turns {
-        expect_equal(rt, call.action(), *action);
-        expect_equal(rt, call.tell(*event), true);
-    }
-    expect_equal(rt, call.action(), Action::Done(end));
-    expect_equal(rt, call.tell(Event::Woken), false);
+    play(rt, all, Kind::Return(5), turns, end);
 }
 
 #[test]

@@ -26,8 +26,7 @@ kind_at code =
     else (if code == 9 then Some kinds.Reclaim
     else (if code == 10 then Some kinds.Clear
     else (if code == 11 then Some kinds.Close
-    else (if code == 12 then Some kinds.Maintain
-    else None)))))))))))
+    else None))))))))))
 
 -- the reports that their codes alone determine
 abbrev pub plain_report : ℕ → Option Report

@@ -8,17 +8,11 @@ use Rattle.pool_journal.specs.declared.input.Input.TheVariants as inputs
 use Rattle.pool_journal.specs.declared.input.When.TheVariants as times
 use Rattle.pool_core.specs.Pool.{CoreModel}
 use Rattle.pool_core.specs.Reply.{reply_from}
-use Rattle.pool_calls.specs.ClearRules as clears
-use Rattle.pool_calls.specs.EvictRules as evicts
-use Rattle.pool_calls.specs.FillRules as fills
-use Rattle.pool_calls.specs.MaintainRules as maintains
-use Rattle.pool_calls.specs.ReclaimRules as reclaims
 use Rattle.pool_calls.specs.Operations.{HasCome, IsRight, began_of, step_at}
 use Rattle.pool_calls.specs.Turns.{Turn, asks_room}
 use Rattle.pool_calls.specs.Waiting.{IsSettled, Signals, most_overtaken}
 use Rattle.pool_calls.specs.declared.operation.Operation.{Operation}
-use Rattle.pool_calls.specs.declared.operation.Operation.TheVariants as operations
-use Rattle.pool_driver.specs.Driving.{DrivenModel, Begins, ChecksAtOnce, GoesFrom, IsTold, LendsAtOnce, Moves, TakesAtOnce, TakesBackAtOnce, available_in, detaches, fits_report, is_done, is_low_in, is_maintenance, told, until_of}
+use Rattle.pool_driver.specs.Driving.{DrivenModel, Begins, ChecksAtOnce, GoesFrom, IsTold, LendsAtOnce, Moves, TakesAtOnce, TakesBackAtOnce, available_in, detaches, fits_report, is_done, is_low_in, told, until_of}
 use Rattle.pool_driver.specs.Overtaking.{CountsOvertakes}
 use Rattle.pool_driver.specs.declared.call.Call.{Call}
 use Rattle.pool_driver.specs.declared.effects.Effects.{Effects}
@@ -40,32 +34,6 @@ use Rattle.zuphinka.specs.declared.status.Status.{Status}
 use Rattle.zuphinka.specs.declared.status.Status.TheVariants.{Done, NotOpen, OutOfMemory, BadRequest, NoCall, Misfit, NoWake, NotAtOnce}
 
 -- ---- what the host is told
--- the number of objects that a fill made, a removal reclaimed, an eviction run or that of maintenance examined, or a clear or a
--- close destroyed
-abbrev pub IsCount : Operation → ℕ → Type 0
-IsCount (operations.Fill c) n = (stage : fills.Stage) → fills.IsAt c.plan c.state stage → n ≡ fills.parked_of stage
-IsCount (operations.Evict c) n = (stage : evicts.Stage) → evicts.IsAt c.plan c.state stage → n ≡ (evicts.run_of stage).examined
-IsCount (operations.Reclaim c) n = (stage : reclaims.Stage) → reclaims.IsAt c.state stage → n ≡ reclaims.taken_of stage
-IsCount (operations.Clear c) n = (stage : clears.Stage) → clears.IsAt c.state stage → n ≡ clears.taken_of stage
-IsCount (operations.Maintain c) n = (stage : maintains.Stage) → maintains.IsAt c.plan c.state stage → n ≡ (maintains.run_of stage).examined
-IsCount _ n = n ≡ 0
-
--- the number of objects that an eviction run, or that of maintenance, destroyed
-abbrev pub IsDestroyed : Operation → ℕ → Type 0
-IsDestroyed (operations.Evict c) n = (stage : evicts.Stage) → evicts.IsAt c.plan c.state stage → n ≡ (evicts.run_of stage).destroyed
-IsDestroyed (operations.Maintain c) n = (stage : maintains.Stage) → maintains.IsAt c.plan c.state stage → n ≡ (maintains.run_of stage).destroyed
-IsDestroyed _ n = n ≡ 0
-
--- the number of objects that maintenance reclaimed
-abbrev pub IsReclaimed : Operation → ℕ → Type 0
-IsReclaimed (operations.Maintain c) n = (stage : maintains.Stage) → maintains.IsAt c.plan c.state stage → n ≡ maintains.taken_of stage
-IsReclaimed _ n = n ≡ 0
-
--- the number of objects that the fill of maintenance made
-abbrev pub IsFilled : Operation → ℕ → Type 0
-IsFilled (operations.Maintain c) n = (stage : maintains.Stage) → maintains.IsAt c.plan c.state stage → n ≡ maintains.parked_of stage
-IsFilled _ n = n ≡ 0
-
 -- C reads these effects of a call, and the ticket to wake
 pub record IsReadAs (e : Effects) (op : Operation) (woken : Option ℕ) (out : CallEffects) : Type 0 where
   pub number : out.number ≡ action_number e.action
@@ -73,10 +41,8 @@ pub record IsReadAs (e : Effects) (op : Operation) (woken : Option ℕ) (out : C
   pub ticket : out.ticket ≡ unwrap_or e.ticket 0
   pub until : out.until ≡ unwrap_or e.until 0
   pub wake : out.wake ≡ unwrap_or woken 0
-  pub count : IsCount op out.count
-  pub destroyed : IsDestroyed op out.destroyed
-  pub reclaimed : IsReclaimed op out.reclaimed
-  pub filled : IsFilled op out.filled
+  pub count : out.count ≡ op.tally.objects
+  pub freed : out.freed ≡ op.tally.freed
   pub action : out.action ≡ action_code e.action
   pub end : out.end ≡ action_end e.action
   pub has_ticket : out.has_ticket ≡ is_some e.ticket
@@ -144,11 +110,10 @@ IsKind s last kinds.Detach c = Asks c (inputs.Invalidate s.id) s.object × (deta
 IsKind s last kinds.Touch c = step_at c.operation ≡ Some (inputs.Use s.id)
 IsKind s last kinds.Add c = step_at c.operation ≡ Some inputs.Add
 IsKind s last kinds.Fill c = step_at c.operation ≡ Some inputs.Fill
-IsKind s last kinds.Evict c = (step_at c.operation ≡ Some inputs.Evict) × (is_maintenance c.operation ≡ false)
+IsKind s last kinds.Evict c = step_at c.operation ≡ Some inputs.Evict
 IsKind s last kinds.Reclaim c = step_at c.operation ≡ Some (inputs.Reclaim times.Maintain)
 IsKind s last kinds.Clear c = step_at c.operation ≡ Some inputs.Clear
 IsKind s last kinds.Close c = step_at c.operation ≡ Some inputs.Close
-IsKind s last kinds.Maintain c = (step_at c.operation ≡ Some inputs.Evict) × (is_maintenance c.operation ≡ true)
 
 -- the pool is the same but for the memory of its table
 abbrev pub SameButSpare : OpenModel → OpenModel → Type 0

@@ -1,7 +1,7 @@
 //! What the host of a call does next, as the codes and numbers that C reads.
 ghost use Rattle.std.specs.Prelude.{◌≡◌};
 ghost use Rattle.zuphinka.specs.CallCodes.{action_code, action_end, action_number, end_code};
-ghost use Rattle.zuphinka.specs.Calling.{IsCount, IsDestroyed, IsFilled, IsReadAs, IsReclaimed};
+ghost use Rattle.zuphinka.specs.Calling.{IsReadAs};
 
 use pool_calls::{Action, End, Operation, StepFailure};
 use pool_driver::Effects;
@@ -20,15 +20,11 @@ pub struct CallEffects {
     pub until: u64,
     /// The ticket of the call to wake first, if there is one; otherwise 0.
     pub wake: u64,
-    /// The number of objects that a fill made, a removal reclaimed, an eviction run or that of maintenance examined, or
-    /// a clear or a close destroyed so far; otherwise 0.
+    /// The number of objects that a fill made, a removal reclaimed, an eviction run examined, or a clear or a close took
+    /// so far; otherwise 0.
     pub count: u64,
-    /// The number of objects that an eviction run, or that of maintenance, destroyed so far; otherwise 0.
-    pub destroyed: u64,
-    /// The number of objects that maintenance reclaimed so far; otherwise 0.
-    pub reclaimed: u64,
-    /// The number of objects that the fill of maintenance made so far; otherwise 0.
-    pub filled: u64,
+    /// The number of places of objects that the call freed so far: of an eviction run the objects that it destroyed.
+    pub freed: u64,
     /// The code of the action.
     pub action: u32,
     /// The code of the end, if the call is over; otherwise 0.
@@ -109,47 +105,6 @@ fn number_of_action(action: Action) -> u64
     }
 }
 
-fn count_of(operation: &Operation) -> u64
-    ensures { IsCount operation.now result }
-{
-    match operation {
-        Operation::Fill(call) => call.parked(),
-        Operation::Evict(call) => call.examined(),
-        Operation::Reclaim(call) => call.reclaimed(),
-        Operation::Clear(call) => call.destroyed(),
-        Operation::Maintain(call) => call.examined(),
-        _ => 0,
-    }
-}
-
-fn destroyed_by(operation: &Operation) -> u64
-    ensures { IsDestroyed operation.now result }
-{
-    match operation {
-        Operation::Evict(call) => call.destroyed(),
-        Operation::Maintain(call) => call.destroyed(),
-        _ => 0,
-    }
-}
-
-fn reclaimed_by(operation: &Operation) -> u64
-    ensures { IsReclaimed operation.now result }
-{
-    match operation {
-        Operation::Maintain(call) => call.reclaimed(),
-        _ => 0,
-    }
-}
-
-fn filled_by(operation: &Operation) -> u64
-    ensures { IsFilled operation.now result }
-{
-    match operation {
-        Operation::Maintain(call) => call.parked(),
-        _ => 0,
-    }
-}
-
 impl CallEffects {
     pub(crate) fn of(effects: &Effects, operation: &Operation, wake: Option<u64>) -> CallEffects
         ensures { IsReadAs effects.now operation.now wake result }
@@ -157,16 +112,15 @@ impl CallEffects {
         let has_ticket = effects.ticket.is_some();
         let has_until = effects.until.is_some();
         let has_wake = wake.is_some();
+        let tally = operation.tally();
         CallEffects {
             number: number_of_action(effects.action),
             object: effects.token,
             ticket: effects.ticket.unwrap_or(0),
             until: effects.until.unwrap_or(0),
             wake: wake.unwrap_or(0),
-            count: count_of(operation),
-            destroyed: destroyed_by(operation),
-            reclaimed: reclaimed_by(operation),
-            filled: filled_by(operation),
+            count: tally.objects,
+            freed: tally.freed,
             action: code_of_action(effects.action),
             end: end_of_action(effects.action),
             has_ticket,

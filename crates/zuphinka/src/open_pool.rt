@@ -62,6 +62,7 @@ fn is_over(effects: &Effects) -> bool
 
 // Goes on with a call after a report. Returns what C reads of what the host does next, and whether the call is over.
 // `None`: the report does not fit the last action.
+#[inline(always)]
 fn go_on(
     driven: &mut DrivenPool,
     call: &mut Call,

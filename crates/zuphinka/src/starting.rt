@@ -22,7 +22,6 @@ pub enum Kind {
     Reclaim,
     Clear,
     Close,
-    Maintain,
 }
 
 /// What begins a call. The kind determines which fields are read.
@@ -57,7 +56,6 @@ fn kind_at(code: u32) -> Option<Kind>
         9 => Some(Kind::Reclaim),
         10 => Some(Kind::Clear),
         11 => Some(Kind::Close),
-        12 => Some(Kind::Maintain),
         _ => None,
     }
 }
@@ -88,7 +86,6 @@ impl CallStart {
             Kind::Reclaim => pool.reclaim(),
             Kind::Clear => pool.clear(),
             Kind::Close => pool.close(),
-            Kind::Maintain => pool.maintain(),
         }
     }
 }

@@ -2,9 +2,10 @@ use Rattle.pool_shared.proofs.Sweeping.{goes_then}
 use Rattle.std.proofs.Common.{refl, sym, ap, ◌∙◌}
 use Rattle.pool_journal.specs.declared.answer.Answer.TheVariants.{Refused, Exhausted, TimedOut}
 use Rattle.pool_journal.specs.declared.answer.Cause.TheVariants.{Closed}
-use Rattle.pool_calls.specs.BorrowRules as borrows
-use Rattle.pool_calls.specs.BorrowRules.{asks, lent}
-use Rattle.pool_shared.specs.Plans.{plan_of}
+use Rattle.pool_calls.specs.declared.action.End.TheVariants as ends
+use Rattle.pool_calls.specs.declared.kind.Kind.TheVariants as kinds
+use Rattle.pool_calls.specs.declared.stage.Stage.TheVariants as stages
+use Rattle.pool_shared.specs.Stages.{asks}
 use Rattle.pool_shared.specs.Borrows.{BorrowEnds}
 use Rattle.pool_shared.proofs.Asking.{refuses, to_there}
 use Rattle.pool_shared.proofs.Removing.{ends_stopped, not_from_factory}
@@ -17,21 +18,21 @@ returns-in-Some-clause-spec g c =
     let s = g.B.Room.settings in
     let w = to_there s c.args.began _ _ _ _ c.in-Ok-Take-Some.field-0-0-is c.in-Ok-Take-Some.ensures.trace in
     let loan = c.in-Some.ensures.lent in
-    row_at (borrows.IsExpected (plan_of s) c.args.began) borrows.next (BorrowEnds s c.args.self.now.number c.args.began) _ _ _ _ _
-    (trace_on (borrows.IsExpected (plan_of s) c.args.began) borrows.next _ _ _ _ _ _ w (c.in-Some.ensures.trace c.args.began))
-    (ap lent (sym loan.1), loan.0, c.in-Some.ensures.ends)
+    row_at s (kinds.Borrow c.args.began) (BorrowEnds s c.args.self.now.number c.args.began) _ _ _ _ _
+    (trace_on s (kinds.Borrow c.args.began) _ _ _ _ _ _ w (c.in-Some.ensures.trace c.args.began))
+    (ap (λ i. stages.Ends (ends.Lent i)) (sym loan.1), loan.0, c.in-Some.ensures.ends)
 
 pub returns-in-None-clause-again : goal.returns-in-None-clause-again
 returns-in-None-clause-again g c =
     let s = g.B.Room.settings in
     let w = to_there s c.args.began _ _ _ _ c.in-Ok-Take-Some.field-0-0-is c.in-Ok-Take-Some.ensures.trace in
-    trace_on (borrows.IsExpected (plan_of s) c.args.began) borrows.next _ _ _ _ _ _ w (c.in-None.ensures.trace c.args.began)
+    trace_on s (kinds.Borrow c.args.began) _ _ _ _ _ _ w (c.in-None.ensures.trace c.args.began)
 
 pub returns-in-Ok-Make-default-clause-spec : goal.returns-in-Ok-Make-default-clause-spec
 returns-in-Ok-Make-default-clause-spec g c =
     let s = g.B.Room.settings in
     let w = to_there s c.args.began _ _ _ _ c.in-Ok-Make-default.field-0-0-is c.in-Ok-Make-default.ensures.trace in
-    row_on (borrows.IsExpected (plan_of s) c.args.began) borrows.next (BorrowEnds s c.args.self.now.number c.args.began) _ _ _ _ _ _ w (c.lend_made.ensures.spec c.args.began)
+    row_on s (kinds.Borrow c.args.began) (BorrowEnds s c.args.self.now.number c.args.began) _ _ _ _ _ _ w (c.lend_made.ensures.spec c.args.began)
 
 pub returns-in-Some-clause-advances : goal.returns-in-Some-clause-advances
 returns-in-Some-clause-advances g c = goes_then g.B.Room.settings _ _ _ c.in-Ok-Take-Some.ensures.advances c.in-Some.ensures.advances
@@ -64,7 +65,7 @@ pub returns-in-Err-clause-spec : goal.returns-in-Err-clause-spec
 returns-in-Err-clause-spec g c =
     let s = g.B.Room.settings in
     let of = c.in-Err.ensures in
-    rw c.from.ensures (row_at (borrows.IsExpected (plan_of s) c.args.began) borrows.next (BorrowEnds s c.args.self.now.number c.args.began) asks asks _ _ _ of.none (ends_stopped s c.args.began g.row.T.Denot g.row.E.Denot c.args.self.now.number asks c.in-Err.fault _ of.refused))
+    rw c.from.ensures (row_at s (kinds.Borrow c.args.began) (BorrowEnds s c.args.self.now.number c.args.began) asks asks _ _ _ of.none (ends_stopped s c.args.began g.row.T.Denot g.row.E.Denot c.args.self.now.number asks c.in-Err.fault _ of.refused))
 
 pub returns-in-Err-clause-fault : goal.returns-in-Err-clause-fault
 returns-in-Err-clause-fault g c = rw c.from.ensures (not_from_factory _ _ c.in-Err.fault)

@@ -1,5 +1,4 @@
-use Rattle.pool_calls.specs.BorrowRules as borrows
-use Rattle.pool_shared.specs.Plans.{plan_of}
+use Rattle.pool_calls.specs.declared.kind.Kind.TheVariants as kinds
 use Rattle.pool_shared.specs.Borrows.{BorrowEnds}
 use Rattle.pool_shared.proofs.Asking.{once_more}
 use Rattle.pool_shared.proofs.Traces.{goes_far}
@@ -8,7 +7,7 @@ use Rattle.pool_shared.proofs.pool.SharedPool.borrow_until_result.Goals as goal
 
 pub returns-in-Some-borrow_once-clause-spec : goal.returns-in-Some-borrow_once-clause-spec
 returns-in-Some-borrow_once-clause-spec g c =
-    row_on (borrows.IsExpected (plan_of g.B.Room.settings) c.args.began) borrows.next (BorrowEnds g.B.Room.settings c.args.self.now.number c.args.began) _ _ _ _ _ _ c.loop.invariant.1 c.in-Some-borrow_once.ensures.spec
+    row_on g.B.Room.settings (kinds.Borrow c.args.began) (BorrowEnds g.B.Room.settings c.args.self.now.number c.args.began) _ _ _ _ _ _ c.loop.invariant.1 c.in-Some-borrow_once.ensures.spec
 
 pub loop-preserved : goal.loop-preserved
 loop-preserved g c =

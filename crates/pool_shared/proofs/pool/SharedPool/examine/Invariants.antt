@@ -1,8 +1,7 @@
 use Rattle.std.proofs.Common.{◌≡◌, ℕ, ◌+◌, ◌≤◌}
 use Rattle.pool_history.specs.CallerStates.{Advances}
-use Rattle.pool_calls.specs.EvictRules.{examines, none_yet, next, IsExpected}
-use Rattle.pool_shared.specs.Plans.{plan_of}
-use Rattle.pool_shared.specs.Evicts.{counts_of}
+use Rattle.pool_calls.specs.declared.kind.Kind.TheVariants as kinds
+use Rattle.pool_shared.specs.Evicts.{goes_on, HasCounts}
 use Rattle.pool_shared.specs.Traces.{Trace, EndsWithOwn}
 use Rattle.pool_shared.proofs.pool.SharedPool.examine.Given as goal
 
@@ -14,5 +13,6 @@ invariant-loop-taken g l = record {
   destroyed : l.run.destroyed ≤ l._taken;
   left : ℕ;
   all : left + l._taken ≡ l.count;
-  trace : Trace (IsExpected (plan_of g.B.Room.settings)) next (examines l.count none_yet) l.initial.me l.me (examines left (counts_of l.run));
+  trace : Trace g.B.Room.settings kinds.Evict (goes_on l.count) l.initial.me l.me (goes_on left);
+  counts : HasCounts l.run l.initial.me l.me;
 }

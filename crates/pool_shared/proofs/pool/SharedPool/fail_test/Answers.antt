@@ -6,4 +6,4 @@ pub returns-clause-advances : goal.returns-clause-advances
 returns-clause-advances g c = goes_then g.B.Room.settings _ _ _ c.complete.ensures.advances c.destroy_held.ensures.advances
 
 pub returns-clause-trace : goal.returns-clause-trace
-returns-clause-trace g c left run = failed g.B.Room.settings c.args.id left run c.args.outcome _ _ _ _ c.requires.outcome c.in-Destroy.is c.complete.ensures.appended c.destroy_held.ensures.appended
+returns-clause-trace g c = failed g.B.Room.settings c.args.id c.args.outcome _ _ _ _ c.requires.outcome c.in-Destroy.is c.complete.ensures.appended c.destroy_held.ensures.appended

@@ -8,7 +8,7 @@ loop-preserved-in-Ok-Idle g c =
     let i = c.loop.invariant in
     let e = c.in-Ok-Idle.ensures in (
       comes_on g.B.Room.settings _ _ _ i.0 e.advances,
-      one_parked g.B.Room.settings i.1.0 c.loop.parked _ _ _ i.1.1 i.1.2 c.in-Ok-Idle.field-0 _ c.in-Ok-Idle.field-0-is refl (e.turn i.1.0).0,
+      one_parked g.B.Room.settings c.loop.parked _ _ _ i.1 c.in-Ok-Idle.field-0 e.turn.0 e.turn.1 _ c.in-Ok-Idle.field-0-is refl,
     )
 
 pub loop-preserved : goal.loop-preserved
@@ -16,7 +16,7 @@ loop-preserved g c =
     let i = c.loop.invariant in
     let e = c.in-Ok-Destroyed.ensures in (
       comes_on g.B.Room.settings _ _ _ i.0 e.advances,
-      one_lost g.B.Room.settings i.1.0 c.loop.parked _ _ _ i.1.1 i.1.2 c.in-Ok-Destroyed.field-0 c.in-Ok-Destroyed.field-0-is (e.turn i.1.0).0,
+      one_lost g.B.Room.settings c.loop.parked _ _ _ i.1 c.in-Ok-Destroyed.field-0 e.turn.0 e.turn.1 c.in-Ok-Destroyed.field-0-is,
     )
 
 pub returns-in-Ok-NoPlace-clause-advances : goal.returns-in-Ok-NoPlace-clause-advances
@@ -28,20 +28,21 @@ returns-in-Err-clause-advances g c = goes_far g.B.Room.settings _ _ _ c.loop.inv
 pub returns-in-Ok-NoPlace-clause-spec : goal.returns-in-Ok-NoPlace-clause-spec
 returns-in-Ok-NoPlace-clause-spec g c =
     let i = c.loop.invariant in
-    let turn = c.in-Ok-NoPlace.ensures.turn i.1.0 in
-    all_filled g.B.Room.settings i.1.0 c.loop.parked _ _ _ i.1.1 i.1.2 c.in-Ok-NoPlace.field-0 c.in-Ok-NoPlace.field-0-is turn.0 turn.1
+    let turn = c.in-Ok-NoPlace.ensures.turn in
+    all_filled g.B.Room.settings c.loop.parked _ _ _ i.1 c.in-Ok-NoPlace.field-0 turn.0 turn.1 c.in-Ok-NoPlace.field-0-is turn.2
 
 pub returns-in-Ok-NoPlace-clause-parked : goal.returns-in-Ok-NoPlace-clause-parked
 returns-in-Ok-NoPlace-clause-parked g c =
     let i = c.loop.invariant in
-    all_counted g.B.Room.settings i.1.0 c.loop.parked _ _ _ i.1.1 i.1.2 c.in-Ok-NoPlace.field-0 c.in-Ok-NoPlace.field-0-is (c.in-Ok-NoPlace.ensures.turn i.1.0).0
+    let turn = c.in-Ok-NoPlace.ensures.turn in
+    all_counted g.B.Room.settings c.loop.parked _ _ _ i.1 c.in-Ok-NoPlace.field-0 turn.0 turn.1 c.in-Ok-NoPlace.field-0-is
 
 pub returns-in-Err-clause-spec : goal.returns-in-Err-clause-spec
 returns-in-Err-clause-spec g c =
     let i = c.loop.invariant in
-    filled_part g.B.Room.settings i.1.0 c.loop.parked _ _ _ i.1.1 i.1.2 c.in-Err.fault (c.in-Err.ensures.turn i.1.0)
+    filled_part g.B.Room.settings c.loop.parked _ _ _ i.1 c.in-Err.fault c.in-Err.ensures.turn
 
 pub overflow_add-parked : goal.overflow_add-parked
 overflow_add-parked g c =
     let i = c.loop.invariant in
-    omega (arith, i.1.1, c.in-Ok-Idle.ensures.bounded, bounded_parked g.B.Room.settings i.1.0 _ _ i.1.2)
+    omega (arith, c.in-Ok-Idle.ensures.bounded, bounded_parked c.loop.parked c.args.me.now c.loop.me i.1.1)

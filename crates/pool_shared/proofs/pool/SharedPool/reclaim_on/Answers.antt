@@ -5,7 +5,7 @@ use Rattle.pool_shared.proofs.pool.SharedPool.reclaim_on.Goals as goal
 
 pub returns-clause-spec : goal.returns-clause-spec
 returns-clause-spec g c =
-    removal g.B.Room.settings c.args.on c.in-Count.count _ _ _ _ _ c.in-Count.is c.in_ok-count.ensures.appended c.reclaim_some.ensures.spec
+    removal g.B.Room.settings c.args.on c.in-Count.count _ _ _ _ _ c.in-Count.is c.in_ok-count.ensures.appended c.reclaim_some.ensures.trace
 
 pub returns-clause-advances : goal.returns-clause-advances
 returns-clause-advances g c = goes_then g.B.Room.settings _ _ _ c.in_ok-count.ensures.advances c.reclaim_some.ensures.advances

@@ -1,0 +1,12 @@
+//! Laws of all calls, by the rules that each report follows.
+ghost use Rattle.pool_calls.specs.Runs.{EndsSoon, FreesOnlyDestroyed};
+
+/// A call that is given up is over after at most three more reports that fit.
+pub fn calls_given_up_end_soon()
+    ensures { EndsSoon }
+{}
+
+/// The place of an object is freed only after the factory destroyed it, unless its holder keeps it.
+pub fn only_destroyed_objects_are_freed()
+    ensures { FreesOnlyDestroyed }
+{}
