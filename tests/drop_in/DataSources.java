@@ -39,7 +39,7 @@ public final class DataSources {
     private static BasicDataSource source(String name) {
         BasicDataSource source = new BasicDataSource();
         source.setDriverClassName("org.h2.Driver");
-        source.setUrl("jdbc:h2:mem:" + name + ";DB_CLOSE_DELAY=-1");
+        source.setUrl("jdbc:h2:mem:" + name + ";DB_CLOSE_DELAY=-1;LOCK_TIMEOUT=60000");
         source.setMaxTotal(3);
         source.setMaxIdle(2);
         source.setMaxWaitMillis(200);
