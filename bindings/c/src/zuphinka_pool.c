@@ -34,9 +34,8 @@ static enum zuphinka_pool_error error_of_loan(const struct zuphinka_pool *pool, 
 
 /* ---- the course of a call */
 
-/* A call begins now. It lacks memory if it does not get on. */
+/* A call begins now. */
 static void begin_run(const struct zuphinka_pool *pool, struct run *run) {
-  run->next.end = ZUPHINKA_END_OUT_OF_MEMORY;
   read_clock(pool, run);
   run->first = run->at;
   run->start.caller = run->event.caller = zuphinka_pool_caller();
@@ -133,6 +132,7 @@ static inline bool run_at_once(struct zuphinka_pool *pool, struct run *run) {
 /* Makes a call from its beginning to its end, with the lock held before and after, and not while a callback runs. Returns its error. */
 static enum zuphinka_pool_error drive(struct zuphinka_pool *pool, struct run *run) {
   struct zuphinka_call call;
+  run->next = (struct zuphinka_effects){.end = ZUPHINKA_END_OUT_OF_MEMORY}; /* if it does not get on */
   uint32_t status = zuphinka_begin(&pool->core, &run->start, &call, &run->next);
   if (run->start.kind == ZUPHINKA_KIND_CLOSE) wake(&pool->conditions[CUT]);
   while (status == ZUPHINKA_STATUS_DONE) {
@@ -321,7 +321,6 @@ enum zuphinka_pool_error zuphinka_pool_maintain(struct zuphinka_pool *pool, stru
   for (int part = 0; part < 3 && !error; part++) {
     run.start.kind = kinds[part];
     run.start.at = run.at.milliseconds;
-    run.next = (struct zuphinka_effects){.end = ZUPHINKA_END_OUT_OF_MEMORY};
     error = drive(pool, &run);
     last[part] = run.next;
   }
