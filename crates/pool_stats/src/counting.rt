@@ -1,31 +1,9 @@
-//! Which entries count as loans, returns, makes, removals and failed tests.
+//! Which entries count as removals and failed tests.
 ghost use Rattle.std.specs.Prelude.{◌≡◌};
-ghost use Rattle.pool_journal.specs.Entries.{is_lent_answer, is_make_answer};
-ghost use Rattle.pool_stats.specs.Answers.{is_check, is_failing};
+ghost use Rattle.pool_stats.specs.Answers.{is_failing};
 ghost use Rattle.pool_journal.specs.Totals.{is_freed, is_reclaimed, is_evicting};
 
 use pool_journal::{Answer, Input, Outcome};
-
-/// Returns whether an answer lends an object.
-pub(crate) fn is_lending(answer: Answer) -> bool
-    ensures { result ≡ is_lent_answer answer }
-{
-    matches!(answer, Answer::Lent)
-}
-
-/// Returns whether an answer accepts the return of a lent object.
-pub(crate) fn is_checking(answer: Answer) -> bool
-    ensures { result ≡ is_check answer }
-{
-    matches!(answer, Answer::Check)
-}
-
-/// Returns whether an answer is to make an object.
-pub(crate) fn is_making(answer: Answer) -> bool
-    ensures { result ≡ is_make_answer answer }
-{
-    matches!(answer, Answer::Make(_))
-}
 
 /// Returns whether an answer frees the place of an object that was destroyed or could not be made.
 pub(crate) fn is_freeing(answer: Answer) -> bool

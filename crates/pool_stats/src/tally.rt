@@ -1,6 +1,6 @@
 //! The numbers of entries of each counted kind.
 
-use crate::counting::{is_checking, is_failing, is_lending, is_making};
+use crate::counting::is_failing;
 use crate::ended::RemovalTotals;
 use pool_journal::{Answer, Input};
 
@@ -41,12 +41,24 @@ impl Tally {
         requires { MayTally self }
         ensures { result ≡ tally_after answer input self }
     {
-        Tally {
-            borrowed: self.borrowed + u64::from(is_lending(answer)),
-            returned: self.returned + u64::from(is_checking(answer)),
-            created: self.created + u64::from(is_making(answer)),
-            borrow_test_failed: self.borrow_test_failed + u64::from(is_failing(answer, input)),
-            ended: self.ended.after(input, answer),
+        match answer {
+            Answer::Lent => Tally {
+                borrowed: self.borrowed + 1,
+                ..self
+            },
+            Answer::Check => Tally {
+                returned: self.returned + 1,
+                ..self
+            },
+            Answer::Make(_) => Tally {
+                created: self.created + 1,
+                ..self
+            },
+            _ => Tally {
+                borrow_test_failed: self.borrow_test_failed + u64::from(is_failing(answer, input)),
+                ended: self.ended.after(input, answer),
+                ..self
+            },
         }
     }
 }
