@@ -34,6 +34,7 @@ fn value_of(input: &Input) -> Option<u64>
 }
 
 /// Takes the step that a request in line `number` asks for, and returns its entry. On an error the pool is unchanged.
+#[inline(always)]
 pub(crate) fn step(
     stepper: &mut Stepper<u64>,
     number: u64,
