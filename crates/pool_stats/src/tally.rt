@@ -37,6 +37,7 @@ impl Tally {
     }
 
     /// Returns the numbers after one more entry, with this input and this answer.
+    #[inline(always)]
     pub(crate) fn after(self, input: Input, answer: Answer) -> Tally
         requires { MayTally self }
         ensures { result ≡ tally_after answer input self }
