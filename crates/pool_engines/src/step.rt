@@ -1,9 +1,9 @@
 //! Takes the step that a line asks for, on a pool in which the value of each object is its id.
-ghost use Rattle.std.specs.Prelude.{◌≡◌, ◌+◌, is_some, IfErr, OnErr, MatchResult};
+ghost use Rattle.std.specs.Prelude.{◌≡◌, ◌+◌, is_some, OnErr, MatchResult};
 ghost use Rattle.pool_journal.specs.Text.{IsRequest};
 ghost use Rattle.pool_journal.specs.Carrying.{carries};
 ghost use Rattle.pool_engines.specs.Made.{IsProducedFrom};
-ghost use Rattle.pool_engines.specs.Step.{Answers, Refuses};
+ghost use Rattle.pool_engines.specs.Step.{Answers, Refuses, fault_at};
 ghost use Rattle.pool_engines.specs.Engine.{IsOwnFault};
 ghost use Rattle.pool_core.specs.Stepper.{ForEveryHistory, pool_of};
 
@@ -33,25 +33,41 @@ fn value_of(input: &Input) -> Option<u64>
     }
 }
 
-/// Takes the step that a request in line `number` asks for, and returns its entry. On an error the pool is unchanged.
+/// Why a step is not taken.
+#[derive(Clone, Copy)]
+pub(crate) enum Refusal {
+    /// The journal has no room for its entry.
+    Full,
+    OutOfMemory,
+}
+
+impl Refusal {
+    /// Returns the error of line `number`, which asked for the step.
+    pub(crate) fn at(self, number: u64) -> EngineFault
+        ensures fault { result ≡ fault_at number self }
+        ensures own { IsOwnFault result }
+    {
+        match self {
+            Refusal::Full => EngineFault::Full(number),
+            Refusal::OutOfMemory => EngineFault::OutOfMemory,
+        }
+    }
+}
+
+/// Takes the step that a request asks for, and returns its entry. On an error the pool is unchanged.
 #[inline(always)]
-pub(crate) fn step(
-    stepper: &mut Stepper<u64>,
-    number: u64,
-    request: &Request,
-) -> Result<Entry, EngineFault>
+pub(crate) fn step(stepper: &mut Stepper<u64>, request: &Request) -> Result<Entry, Refusal>
     requires asked { IsRequest request.now }
     ensures stepped { ForEveryHistory stepper.old
         (λ b J. IsProducedFrom stepper.old.settings b J → MatchResult result
         (Answers request.now b J stepper.old stepper.new)
-        (Refuses (pool_of stepper.old b J) number request.now)) }
+        (Refuses (pool_of stepper.old b J) request.now)) }
     ensures unchanged_on_error { OnErr result (stepper.new ≡ stepper.old) }
-    ensures own { IfErr result IsOwnFault }
 {
     let Request { caller, at, input } = *request;
     match stepper.step(caller, at, input, value_of(&input)) {
         Ok((entry, _)) => Ok(entry),
-        Err(StepFault::JournalFull(_)) => Err(EngineFault::Full(number)),
-        Err(StepFault::OutOfMemory(_)) => Err(EngineFault::OutOfMemory),
+        Err(StepFault::JournalFull(_)) => Err(Refusal::Full),
+        Err(StepFault::OutOfMemory(_)) => Err(Refusal::OutOfMemory),
     }
 }

@@ -31,7 +31,7 @@ returns-in-Ok-clause-stepped c =
 
 pub returns-in-Err-JournalFull-clause-stepped : goal.returns-in-Err-JournalFull-clause-stepped
 returns-in-Err-JournalFull-clause-stepped c = λ b J after made.
-    (refl, (subst (Faulted _ _ _ _ (pool_of c.args.stepper.now b J)) c.in-Err-JournalFull.field-0-is (c.in-Err-JournalFull.ensures.answered b J after)).0)
+    (subst (Faulted _ _ _ _ (pool_of c.args.stepper.now b J)) c.in-Err-JournalFull.field-0-is (c.in-Err-JournalFull.ensures.answered b J after)).0
 
 not_completing : (x : Bool) → (x ≡ true → false ≡ true) → x ≡ false
 not_completing true is = sym (is refl)
