@@ -1,7 +1,7 @@
 -- The two steps of a borrow of an idle object, and those of a return to it, taken at once.
 use Rattle.std.proofs.Common.{◌≡◌, ℕ, ◌+◌, ◌<◌, ◌≤◌, ◌^◌, Bool, true, false, not, if◌then◌else◌, List, [], ◌∷◌, ◌++◌, length, length-append, Option, Some, None, unwrap_or, refl, sym, ap, ◌∙◌, subst, arith}
 use Rattle.std.proofs.lemmas.Bool.Decides.{nat_tests}
-use Rattle.std.specs.Prelude.{◌==◌, ◌&&◌, ◌||◌, IsSomeAnd, IsSome}
+use Rattle.std.specs.Prelude.{◌==◌, ◌&&◌, IsSomeAnd, IsSome}
 use Rattle.std.specs.List.{AllByRecursion}
 use Rattle.std.specs.Option.{option_map, option_and_then}
 use Rattle.pool_journal.specs.Base.{closed_from, cursor_from, drawn_from, phase_from, records_from}
@@ -45,6 +45,7 @@ use Rattle.pool_core.proofs.Effects.{speaks}
 use Rattle.pool_core.proofs.Finding.{finds_of}
 use Rattle.pool_core.proofs.Legality.{legal_reaches_from}
 use Rattle.pool_core.proofs.Moving.{check_known, lent_known, parked_known, taken_known}
+use Rattle.pool_core.proofs.Outstanding.{open_owes, or_false}
 use Rattle.pool_core.proofs.Pairs.{lent_of, parked_of}
 use Rattle.pool_core.proofs.Representing.{before_of, due_of, owed_on, owed_then, represents_on}
 use Rattle.pool_core.proofs.Stepping.{owed_in, represents_after, taken_on}
@@ -54,10 +55,6 @@ use Rattle.pool_core.proofs.Stepping.{owed_in, represents_after, taken_on}
 checked_is_not_queued : (p : Phase) → comes_from answers.Check p ≡ true → is_queued p ≡ false
 checked_is_not_queued phases.Lent is = refl
 checked_is_not_queued _ is = absurd (cc is)
-
-pub or_false : (t : Bool) → (t || false) ≡ t
-or_false true = refl
-or_false false = refl
 
 module _ (rs : List Record) (i : ℕ) (lent : IsSomeAnd (record_in rs i) (λ r. comes_from answers.Check r.phase ≡ true)) where
   queue_stays : (ks : List Record) → AllByRecursion (λ r. record_in rs r.id ≡ Some r) ks
@@ -124,10 +121,6 @@ module _ (S : Settings) (b : Base) (J : List Entry) (sound : IsWellFormed b) (le
 same_id : (i : ℕ) → (i == i) ≡ true
 same_id i = grind (arith, nat_tests)
 
--- the outstanding entry of an open pool besides those of its objects
-abbrev open_owes : Bool → ℕ
-open_owes shut = if shut then 0 else 1
-
 -- no id is drawn, and no object ends
 same_next : (n : ℕ) → n ≡ n + 0
 same_next n = omega arith
@@ -169,7 +162,7 @@ module _ {T : Type 0} (b : Base) (J : List Entry) (s new : State T) (caller at i
   before = before_of b J (records_in s.places.objects) s.next represents.runnable.sound represents.reaches now.position here (omega (arith, small))
 
   -- an idle object is taken and lent
-  module _ (began owed : ℕ) (plan : IsPlan s.settings b J at (Borrow began) (answers.Take i) owed)
+  module _ (began : ℕ) (plan : IsPlan s.settings b J at (Borrow began) (answers.Take i))
       (stored : value_in s.places.objects i ≡ Some value)
       (objects : new.places.objects ≡ changed i (to_lent at) (changed i (to_taken phases.Readying) s.places.objects))
       (rest : new ≡ record s { places = new.places })
@@ -210,7 +203,7 @@ module _ {T : Type 0} (b : Base) (J : List Entry) (s new : State T) (caller at i
     taken_represents : Represents taken_state b (J ++ take_entry ∷ [])
     taken_represents =
         subst (λ (a : Answer). Represents taken_state b (J ++ entry_of caller at (Borrow began) a ∷ [])) (sym plan.due)
-        (taken_on b J s taken_state s.places caller now (Borrow began) (answers.Take i) None (Some value) owed represents refl here refl releases takes plan)
+        (taken_on b J s taken_state s.places caller now (Borrow began) (answers.Take i) None (Some value) represents refl here refl releases takes plan)
 
     lent_due : answers.Lent ≡ reply_from s.settings b (J ++ take_entry ∷ []) at (Ready i outcomes.Good)
     lent_due =

@@ -10,13 +10,13 @@ use Rattle.pool_journal.specs.declared.input.Input.{Input}
 use Rattle.pool_journal.specs.declared.input.Input.TheVariants.{Borrow, Add, Fill}
 use Rattle.pool_journal.specs.declared.answer.Answer.{Answer}
 use Rattle.pool_journal.specs.declared.answer.Answer.TheVariants as answers
-use Rattle.pool_journal.specs.declared.record.Phase.{Phase}
 use Rattle.pool_journal.specs.declared.record.Phase.TheVariants as phases
 use Rattle.pool_journal.specs.Known.{absent_record}
 use Rattle.pool_journal.specs.declared.entry.Entry.{Entry}
 use Rattle.pool_journal.specs.declared.record.Record.{Record}
 use Rattle.pool_journal.specs.OneMore.{record_after, stays, records_after}
 use Rattle.pool_places.specs.Changes.{with_changed, without_id, new_record, phase_set, lent_at, used_at, parked_at}
+use Rattle.pool_core.specs.Completion.{made_as}
 use Rattle.pool_core.specs.Legal.{entry_of}
 use Rattle.pool_core.specs.Steps.{AllStay, known_after}
 use Rattle.pool_core.specs.declared.state.StepContext.{StepContext}
@@ -169,9 +169,6 @@ reclaimed_known now next i input rs all =
     (λ r is. rw is refl) (λ r is. rw is refl) all
 
 -- if an object is made for an input, it is for a borrow or for the queue
-abbrev pub made_as : Input → Phase
-made_as input = if is_borrow input then phases.Readying else phases.Adding
-
 pub made_to_is : (input : Input) (i : ℕ) → IsSome (made_to input i) → made_to input i ≡ Some (i, made_as input)
 made_to_is (Borrow began) i is = refl
 made_to_is Add i is = refl

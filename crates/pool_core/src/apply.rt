@@ -1,13 +1,13 @@
 //! Applies an answer to the state of a pool: moves the object, and stores or returns its value.
-ghost use Rattle.std.specs.Prelude.{◌≡◌, ◌≤◌, Some, None, IsSome, if◌then◌else◌, true, false, is_some};
+ghost use Rattle.std.specs.Prelude.{◌≡◌, ◌≤◌, Some, None, IsSome, true, false, is_some};
 ghost use Rattle.pool_journal.specs.Carrying.{carries};
-ghost use Rattle.pool_journal.specs.Entries.{id_of, is_borrow, is_make_answer};
-ghost use Rattle.pool_journal.specs.declared.record.Phase.TheVariants as phases;
+ghost use Rattle.pool_journal.specs.Entries.{id_of, is_make_answer};
 ghost use Rattle.pool_places.specs.PlacesModel.{records_in};
 ghost use Rattle.pool_stats.specs.Ended.{MayGrow};
 ghost use Rattle.pool_core.specs.Reply.{reply_from_records};
 
 use crate::marks::{closes, examined, id_in, next_after};
+use crate::room::made_as;
 use crate::state::{State, StepContext};
 use pool_journal::{Answer, Input, Phase};
 
@@ -17,16 +17,6 @@ fn named_by(input: Input) -> u64
     ensures { id_of input ≡ Some result }
 {
     id_in(input).unwrap()
-}
-
-// The first phase of an object that is made for an input.
-fn begins_as(input: Input) -> Phase
-    ensures { result ≡ (if is_borrow input then phases.Readying else phases.Adding) }
-{
-    match input {
-        Input::Borrow { began: _ } => Phase::Readying,
-        _ => Phase::Adding,
-    }
 }
 
 // The value that was taken; none was passed in.
@@ -111,7 +101,7 @@ impl<T> State<T> {
             Answer::Test(id) => taken(value, self.places.take_value(id, Phase::Testing)),
             Answer::DestroyIdle(id) => taken(value, self.places.take_value(id, Phase::Destroying)),
             Answer::Make(id) => {
-                self.places.open(id, begins_as(input));
+                self.places.open(id, made_as(input));
                 value
             }
             Answer::Parked | Answer::Kept => {

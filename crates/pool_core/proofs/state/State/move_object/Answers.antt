@@ -43,7 +43,7 @@ returns-in-Make-clause-known g c =
     let s = c.args.self.now in
     let finds = rw c.in-Make.is at c.requires.finds in
     let makes = rw finds.0 at finds.1 in
-    rw (c.in-Make.is, c.open.ensures.records, c.begins_as.ensures, finds.0)
+    rw (c.in-Make.is, c.open.ensures.records, c.made_as.ensures, finds.0)
     (made_known c.args.now s.next c.args.input (records_in s.places.objects) makes c.requires.before.below c.requires.before.stay)
 
 pub returns-in_default-clause-known : goal.returns-in_default-clause-known
