@@ -49,36 +49,15 @@ impl<T> State<T> {
         match answer {
             Answer::Lent => self.places.set_lent(id, now.at),
             Answer::Noted => self.places.set_used(id, now.at),
-            Answer::Check => self.places.set_phase(id, Phase::Returning),
+            Answer::Check => self.places.set_returned(id),
             Answer::Destroy => self.places.set_phase(id, Phase::Destroying),
             Answer::Freed => self.places.free(id),
             _ => unreachable!(),
         }
     }
 
-    // Makes the object that the input names idle, with its value: after an idle test at its position in the queue,
-    // otherwise at the end.
-    #[inline(always)]
-    fn make_idle(&mut self, now: StepContext, input: Input, answer: Answer, value: T)
-        requires before { IsBefore now.position (records_in self.old.places.objects) self.old.next }
-        requires moves { MovesInputObject input answer (records_in self.old.places.objects) }
-        requires keeps { keeps_value answer ≡ true }
-        ensures known { records_in self.new.places.objects
-            ≡ known_after now input answer self.old.next (records_in self.old.places.objects) }
-        ensures values { StoresValue input self.old.places.objects self.new.places.objects
-            (Some value) None }
-        ensures rest { self.new ≡ record self.old { places = self.new.places } }
-    {
-        let id = named_by(input);
-        match answer {
-            Answer::Parked => self.places.park(id, now.position, now.at, value),
-            Answer::Kept => self.places.put_value(id, value),
-            _ => unreachable!(),
-        }
-    }
-
     // Applies the answer to the objects and their values.
-    #[inline(never)]
+    #[inline(always)]
     fn move_object(
         &mut self,
         now: StepContext,
@@ -97,15 +76,20 @@ impl<T> State<T> {
         ensures rest { self.new ≡ record self.old { places = self.new.places } }
     {
         match answer {
-            Answer::Take(id) => taken(value, self.places.take_value(id, Phase::Readying)),
+            Answer::Take(id) => taken(value, self.places.take_ready(id)),
             Answer::Test(id) => taken(value, self.places.take_value(id, Phase::Testing)),
             Answer::DestroyIdle(id) => taken(value, self.places.take_value(id, Phase::Destroying)),
             Answer::Make(id) => {
                 self.places.open(id, made_as(input));
                 value
             }
-            Answer::Parked | Answer::Kept => {
-                self.make_idle(now, input, answer, value.unwrap());
+            Answer::Parked => {
+                self.places
+                    .park(named_by(input), now.position, now.at, value.unwrap());
+                None
+            }
+            Answer::Kept => {
+                self.places.put_value(named_by(input), value.unwrap());
                 None
             }
             Answer::Lent | Answer::Noted | Answer::Check | Answer::Destroy | Answer::Freed => {
@@ -117,47 +101,6 @@ impl<T> State<T> {
                 value
             }
             _ => value,
-        }
-    }
-
-    // Applies the answer, as `move_object`. It is inlined where the answer is known: then only that of a loan or a return is
-    // left of it.
-    #[inline(always)]
-    fn move_known(
-        &mut self,
-        now: StepContext,
-        input: Input,
-        answer: Answer,
-        value: Option<T>,
-    ) -> Option<T>
-        requires before { IsBefore now.position (records_in self.old.places.objects) self.old.next }
-        requires finds { IsEnabled input answer (records_in self.old.places.objects) self.old.next }
-        requires carried { is_some value ≡ carries input }
-        requires reserved { is_make_answer answer ≡ true → 1 ≤ self.old.places.spare_capacity }
-        ensures known { records_in self.new.places.objects
-            ≡ known_after now input answer self.old.next (records_in self.old.places.objects) }
-        ensures values { TransfersValue answer input self.old.places.objects self.new.places.objects value
-            result }
-        ensures rest { self.new ≡ record self.old { places = self.new.places } }
-    {
-        match answer {
-            Answer::Take(id) => taken(value, self.places.take_ready(id)),
-            Answer::Lent => {
-                let id = named_by(input);
-                self.places.set_lent(id, now.at);
-                value
-            }
-            Answer::Check => {
-                let id = named_by(input);
-                self.places.set_returned(id);
-                value
-            }
-            Answer::Parked => {
-                let id = named_by(input);
-                self.places.park(id, now.position, now.at, value.unwrap());
-                None
-            }
-            _ => self.move_object(now, input, answer, value),
         }
     }
 
@@ -225,7 +168,7 @@ impl<T> State<T> {
     {
         self.update_hints(now.at, input, answer);
         let cursor = self.cursor_after(input, answer);
-        let out = self.move_known(now, input, answer, value);
+        let out = self.move_object(now, input, answer, value);
         self.next = next_after(self.next, answer);
         self.closed = self.closed || closes(answer, input);
         self.cursor = cursor;

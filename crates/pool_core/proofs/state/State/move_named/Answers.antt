@@ -21,14 +21,14 @@ pub returns-in-Check-clause-known : goal.returns-in-Check-clause-known
 returns-in-Check-clause-known g c =
     let s = c.args.self.now in
     rw c.in-Check.is
-    (c.set_phase.ensures.records
+    (c.set_returned.ensures.records
     ∙ check_known c.args.now s.next c.named_by-id.result c.args.input (records_in s.places.objects) c.named_by-id.ensures c.requires.before.stay)
 
 pub returns-in-Destroy-clause-known : goal.returns-in-Destroy-clause-known
 returns-in-Destroy-clause-known g c =
     let s = c.args.self.now in
     rw c.in-Destroy.is
-    (c.set_phase-in-Destroy.ensures.records
+    (c.set_phase.ensures.records
     ∙ destroy_known c.args.now s.next c.named_by-id.result c.args.input (records_in s.places.objects) c.named_by-id.ensures c.requires.before.stay)
 
 pub returns-in-Freed-clause-known : goal.returns-in-Freed-clause-known

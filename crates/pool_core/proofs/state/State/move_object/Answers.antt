@@ -2,7 +2,7 @@ use Rattle.std.proofs.Common.{◌≡◌, ◌∙◌, refl, rules, true}
 use Rattle.pool_journal.specs.declared.answer.Answer.{Answer}
 use Rattle.pool_journal.specs.declared.answer.Answer.TheVariants as answers
 use Rattle.pool_places.specs.PlacesModel.{records_in}
-use Rattle.pool_core.proofs.Moving.{taken_known, test_known, destroy_idle_known, reclaimed_known, made_known, is_silent}
+use Rattle.pool_core.proofs.Moving.{taken_known, test_known, destroy_idle_known, reclaimed_known, made_known, parked_known, kept_known, is_silent}
 use Rattle.pool_core.proofs.Moving.{silent_known}
 use Rattle.pool_core.proofs.state.State.move_object.Goals as goal
 
@@ -11,7 +11,7 @@ returns-in-Take-clause-known g c =
     let s = c.args.self.now in
     let finds = rw c.in-Take.is at c.requires.finds in
     rw c.in-Take.is
-    (c.take_value.ensures.records
+    (c.take_ready.ensures.records
     ∙ taken_known c.args.now s.next c.in-Take.id c.args.input (records_in s.places.objects) finds.1 c.requires.before.stay)
 
 pub returns-in-Take-clause-values : goal.returns-in-Take-clause-values
@@ -21,7 +21,7 @@ pub returns-in-Test-clause-known : goal.returns-in-Test-clause-known
 returns-in-Test-clause-known g c =
     let s = c.args.self.now in
     rw c.in-Test.is
-    (c.take_value-in-Test.ensures.records
+    (c.take_value.ensures.records
     ∙ test_known c.args.now s.next c.in-Test.id c.args.input (records_in s.places.objects) c.requires.before.stay)
 
 pub returns-in-DestroyIdle-clause-known : goal.returns-in-DestroyIdle-clause-known
@@ -45,6 +45,20 @@ returns-in-Make-clause-known g c =
     let makes = rw finds.0 at finds.1 in
     rw (c.in-Make.is, c.open.ensures.records, c.made_as.ensures, finds.0)
     (made_known c.args.now s.next c.args.input (records_in s.places.objects) makes c.requires.before.below c.requires.before.stay)
+
+pub returns-in-Parked-clause-known : goal.returns-in-Parked-clause-known
+returns-in-Parked-clause-known g c =
+    let s = c.args.self.now in
+    rw c.in-Parked.is
+    (c.park.ensures.records
+    ∙ parked_known c.args.now s.next c.named_by.result c.args.input (records_in s.places.objects) c.named_by.ensures c.requires.before.stay)
+
+pub returns-in-Kept-clause-known : goal.returns-in-Kept-clause-known
+returns-in-Kept-clause-known g c =
+    let s = c.args.self.now in
+    rw c.in-Kept.is
+    (c.put_value.ensures.records
+    ∙ kept_known c.args.now s.next c.named_by-in-Kept.result c.args.input (records_in s.places.objects) c.named_by-in-Kept.ensures c.requires.before.stay)
 
 pub returns-in_default-clause-known : goal.returns-in_default-clause-known
 returns-in_default-clause-known g c =
