@@ -31,7 +31,7 @@ use Rattle.pool_places.proofs.Values.{place_changed_here, value_changed_kept, va
 use Rattle.pool_settings.specs.declared.settings.Settings.{Settings}
 use Rattle.pool_stats.specs.declared.ended.RemovalTotals.{RemovalTotals}
 use Rattle.pool_core.specs.Core.{Answered}
-use Rattle.pool_core.specs.Fits.{FitsLimitFrom, owed_from}
+use Rattle.pool_core.specs.Fits.{FitsLimitFrom, limit_from, owed_from}
 use Rattle.pool_core.specs.Legal.{IsLegalFrom, entry_of}
 use Rattle.pool_core.specs.Pool.{Represents}
 use Rattle.pool_core.specs.Reply.{has_room, is_below, reply_from}
@@ -276,13 +276,14 @@ module _ {T : Type 0} (b : Base) (J : List Entry) (s new : State T) (caller at i
       };
     }
 
-    pub lends_some : RepresentsSome new first (taken + 2)
-    lends_some = record {
+    pub lends_some : (limit : ℕ) → limit ≡ limit_from s.settings b → RepresentsSome new first (taken + 2) limit
+    lends_some limit limit_is = record {
       base = b;
       journal = (J ++ take_entry ∷ []) ++ lent_entry ∷ [];
       represents = lent_represents;
       first_is = first_is;
       taken_is = omega (arith, taken_is, length-append J (take_entry ∷ []), length-append (J ++ take_entry ∷ []) (lent_entry ∷ []));
+      limit_is = limit_is ∙ ap (λ (S : Settings). limit_from S b) (sym lends.settings_stay);
     }
 
     pub lends_fewer : owed_from b ((J ++ take_entry ∷ []) ++ lent_entry ∷ []) + 1 ≤ owed_from b (J ++ take_entry ∷ [])
@@ -411,13 +412,14 @@ module _ {T : Type 0} (b : Base) (J : List Entry) (s new : State T) (caller at i
       };
     }
 
-    pub parks_some : RepresentsSome new first (taken + 2)
-    parks_some = record {
+    pub parks_some : (limit : ℕ) → limit ≡ limit_from s.settings b → RepresentsSome new first (taken + 2) limit
+    parks_some limit limit_is = record {
       base = b;
       journal = (J ++ check_entry ∷ []) ++ park_entry ∷ [];
       represents = parked_represents;
       first_is = first_is;
       taken_is = omega (arith, taken_is, length-append J (check_entry ∷ []), length-append (J ++ check_entry ∷ []) (park_entry ∷ []));
+      limit_is = limit_is ∙ ap (λ (S : Settings). limit_from S b) (sym parks.settings_stay);
     }
 
     pub parks_fewer : owed_from b ((J ++ check_entry ∷ []) ++ park_entry ∷ []) + 2 ≤ owed_from b J

@@ -167,11 +167,10 @@ impl<T> State<T> {
             result }
     {
         self.update_hints(now.at, input, answer);
-        let cursor = self.cursor_after(input, answer);
+        self.cursor = self.cursor_after(input, answer);
         let out = self.move_object(now, input, answer, value);
         self.next = next_after(self.next, answer);
         self.closed = self.closed || closes(answer, input);
-        self.cursor = cursor;
         self.ended = self.ended.after(input, answer);
         out
     }

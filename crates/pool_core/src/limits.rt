@@ -1,6 +1,9 @@
 //! Compares numbers and times with the limits of the settings, and counts the tests of an eviction run.
 ghost use Rattle.std.specs.Prelude.{◌≡◌, ◌-◌, ◌^◌, int_le, int_lt, min, pos};
+ghost use Rattle.pool_core.specs.Fits.{entry_limit};
 ghost use Rattle.pool_core.specs.Reply.{is_below, has_reached, is_past, is_nearly_full, tests_per_run};
+
+use pool_settings::Settings;
 
 /// Returns whether `n` is below a limit; a negative limit is no limit.
 pub fn is_below_limit(limit: i32, n: u64) -> bool
@@ -57,10 +60,11 @@ pub fn number_of_tests(number: i32, queue: u64) -> u64
     }
 }
 
-/// Returns the greatest number of entries after `first` others: at most the limit, and such that all together are fewer
-/// than 2^63.
-pub fn limit_behind(limit: u64, first: u64) -> u64
-    ensures { result ≡ min limit (2 ^ 63 - 1 - first) }
+/// Returns the greatest number of entries after `first` others: at most the limit of the settings, and such that all
+/// together are fewer than 2^63. There is always room to close an empty pool.
+pub fn limit_behind(settings: &Settings, first: u64) -> u64
+    ensures { result ≡ min (entry_limit settings.now) (2 ^ 63 - 1 - first) }
 {
+    let limit = settings.journal_limit.max(1);
     limit.min(((1 << 63) - 1u64).saturating_sub(first))
 }

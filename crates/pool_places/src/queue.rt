@@ -68,8 +68,8 @@ pub(crate) fn change<T>(
     ensures room { slots.new.room ≡ slots.old.room }
     ensures remembered { IsWithin slots.new.queue remembered.new }
 {
-    leave(slots, remembered, key, from.phase, to.phase);
     slots.set_known(key, to);
+    leave(slots, remembered, key, from.phase, to.phase);
 }
 
 // Whether an object of the queue is idle, and was parked after the position if there is one.
