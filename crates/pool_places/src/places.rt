@@ -466,6 +466,7 @@ impl<T> Places<T> {
 
     /// Removes the value of an idle object and returns it. In phase `Testing` the object keeps its position in the
     /// queue, in phase `Readying` or `Destroying` it leaves the queue.
+    #[inline(always)]
     pub fn take_value(&mut self, id: u64, phase: Phase) -> T
         requires present { IsInPhase (records_in self.old.objects) id phases.Idle }
         requires phase { IsTrue (takes_to phase) }
@@ -509,18 +510,7 @@ impl<T> Places<T> {
             ≡ owed_for (records_in self.old.objects) + max_remaining phases.Readying }
         ensures spare_capacity { self.old.spare_capacity ≤ self.new.spare_capacity }
     {
-        let key = key_under(&self.index, id);
-        let known = self.slots.known(key);
-        let taken = self.slots.take(key);
-        self.counts.remove(Phase::Idle);
-        self.counts.add(Phase::Readying);
-        let readied = Record {
-            phase: Phase::Readying,
-            is_new: false,
-            ..known
-        };
-        change(&mut self.slots, &mut self.remembered, key, known, readied);
-        taken
+        self.take_value(id, Phase::Readying)
     }
 
     /// Lends an idle object at time `at` (milliseconds), and returns its value: as `take_ready` and then `set_lent`.
