@@ -12,17 +12,13 @@ use Rattle.pool_journal.specs.declared.record.Record.{Record}
 use Rattle.pool_journal.specs.declared.record.Phase.{Phase}
 use Rattle.pool_journal.specs.declared.record.Phase.TheVariants as phases
 use Rattle.pool_places.specs.declared.place.Place.{Place}
-use Rattle.pool_places.specs.Changes.{opens_as, sets_to, takes_to}
+use Rattle.pool_places.specs.Changes.{opens_as, takes_to}
 use Rattle.pool_places.specs.declared.last_uses.LastUse.{LastUse}
 use Rattle.pool_places.specs.declared.last_uses.LastUses.{LastUses}
 use Rattle.pool_places.specs.LastUses.{AreLastUses, IsCovered, IsListed, IsUnused, HasAfter, use_of}
 use Rattle.pool_places.specs.Overdue.{is_lent, overdue, IsBound}
 use Rattle.pool_places.specs.PlacesModel.{records_in}
 use Rattle.pool_places.proofs.Entries.{all_mapped}
-
-pub set_not_lent : (p : Phase) → IsTrue (sets_to p) → is_lent p ≡ false
-set_not_lent phases.Lent is = absurd (cc is)
-set_not_lent _ is = refl
 
 pub opened_not_lent : (p : Phase) → IsTrue (opens_as p) → is_lent p ≡ false
 opened_not_lent phases.Lent is = absurd (cc is)

@@ -8,7 +8,7 @@ use Rattle.pool_journal.specs.declared.record.Phase.{Phase}
 use Rattle.pool_journal.specs.declared.record.Phase.TheVariants as phases
 use Rattle.pool_journal.specs.Queue.{record_in, is_queued}
 use Rattle.pool_places.specs.declared.place.Place.{Place}
-use Rattle.pool_places.specs.Changes.{opens_as, sets_to, IdsBelow, IsFreePosition, QueueBelow}
+use Rattle.pool_places.specs.Changes.{opens_as, IdsBelow, IsFreePosition, QueueBelow}
 use Rattle.pool_places.specs.QueueEntries.{QueueEntry, IsEntry, IsQueueOf}
 use Rattle.pool_places.proofs.Entries.{all_mapped}
 use Rattle.pool_places.proofs.Found.{Found}
@@ -21,11 +21,6 @@ found_id {q} here = ap (λ x. x.known.id) here.read ∙ here.at.has_id q
 pub record_absent : (i : ℕ) (rs : List Record) → IdsBelow i rs → record_in rs i ≡ None
 record_absent i [] below = refl
 record_absent i (r ∷ rs) below = (let apart : (i == r.id) ≡ false = grind (arith, nat_tests, below.0) in rw apart (record_absent i rs below.1))
-
-pub set_not_queued : (p : Phase) → IsTrue (sets_to p) → is_queued p ≡ false
-set_not_queued phases.Idle is = absurd (cc is)
-set_not_queued phases.Testing is = absurd (cc is)
-set_not_queued _ is = refl
 
 pub opened_not_queued : (p : Phase) → IsTrue (opens_as p) → is_queued p ≡ false
 opened_not_queued phases.Idle is = absurd (cc is)

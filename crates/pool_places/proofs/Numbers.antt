@@ -99,17 +99,6 @@ counted_set {ps} {k} {q} old rest new p here is less more = record {
   owed = omega (arith, is.owed, less.owed, more.owed, total_set max_remaining p here);
 }
 
--- the counts with the object in the same phase
-pub counted_same : {T : Type 0} {ps : List (Place T)} {i k : ℕ} {q : Place T} (c : PlaceCounts) (p : Place T) → Found ps i k q → p.known.phase ≡ q.known.phase → IsCounts c (records_in ps) → IsCounts c (records_in (set ps k p))
-counted_same {ps} {k} {q} c p here same is = record {
-  present = omega (arith, is.present, ones (records_in ps), ones (records_in (set ps k p)), total_set (λ p. 1) p here);
-  queue = omega (arith, is.queue, ap (one is_queued) same, total_set (one is_queued) p here);
-  idle = omega (arith, is.idle, ap (one is_idle) same, total_set (one is_idle) p here);
-  lent = omega (arith, is.lent, ap (one is_lent) same, total_set (one is_lent) p here);
-  adding = omega (arith, is.adding, ap (one is_adding) same, total_set (one is_adding) p here);
-  owed = omega (arith, is.owed, ap max_remaining same, total_set max_remaining p here);
-}
-
 -- the counts with one more object
 pub counted_push : {T : Type 0} (ps : List (Place T)) (old new : PlaceCounts) (p : Place T) → IsCounts old (records_in ps) → HasOneMore old new p.known.phase → IsCounts new (records_in (ps ++ p ∷ []))
 counted_push ps old new p is more = record {

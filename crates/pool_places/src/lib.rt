@@ -9,6 +9,7 @@ mod place;
 mod place_counts;
 mod places;
 mod queue;
+mod turning;
 
 pub use phase_tests::weight_of_phase;
 pub use place::Place;

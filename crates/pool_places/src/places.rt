@@ -10,6 +10,7 @@ ghost use Rattle.pool_places.specs.After.{is_after};
 ghost use Rattle.pool_places.specs.Changes.{with_changed, without_id, new_record, phase_set, lent_at, used_at, parked_at, opens_as, sets_to, takes_to, IdsBelow, IsFreePosition, IsInPhase, QueueBelow};
 ghost use Rattle.pool_places.specs.Counts.{is_adding, max_remaining, weight_of, owed_for};
 ghost use Rattle.pool_places.specs.Overdue.{is_lent, overdue, IsBound};
+ghost use Rattle.pool_places.specs.Turn.{phase_after, turned};
 ghost use Rattle.pool_places.specs.PlacesModel.{records_in, value_in, changed, without, new_place, to_phase, to_lent, to_used, to_idle, to_kept, to_taken, PlacesInvariant};
 
 use crate::keys::key_under;
@@ -18,6 +19,7 @@ use crate::overdue::{earlier, first_overdue, last_use, overdue_count};
 use crate::phase_tests::is_queued_phase;
 use crate::place_counts::PlaceCounts;
 use crate::queue::{change, enter, first_wanted, last_wanted, leave, start_after};
+use crate::turning::Turn;
 use pool_journal::{Phase, Record};
 use pool_slots::Slots;
 use sorted_index::SortedIndex;
@@ -336,6 +338,30 @@ impl<T> Places<T> {
         self.counts.add(phase);
     }
 
+    // Changes the record of an object in phase `from`, which isn't idle, and isn't in the queue afterwards.
+    #[inline(always)]
+    fn turn(&mut self, id: u64, from: Phase, turn: Turn)
+        requires present { IsInPhase (records_in self.old.objects) id from }
+        requires before { is_idle from ≡ false }
+        requires after { is_queued (phase_after turn from) ≡ false }
+        ensures objects { self.new.objects
+            ≡ changed id (λ p. record p { known = turned turn p.known }) self.old.objects }
+        ensures records { records_in self.new.objects
+            ≡ with_changed id (turned turn) (records_in self.old.objects) }
+        ensures values { (j : ℕ) → value_in self.new.objects j ≡ value_in self.old.objects j }
+        ensures owed { owed_for (records_in self.new.objects) + max_remaining from
+            ≡ owed_for (records_in self.old.objects) + max_remaining (phase_after turn from) }
+        ensures spare_capacity { self.old.spare_capacity ≤ self.new.spare_capacity }
+    {
+        let key = key_under(&self.index, id);
+        let known = self.slots.known(key);
+        let next = turn.of(known);
+        self.counts.remove(from);
+        self.counts.add(next.phase);
+        self.uses.recent = earlier(self.uses.recent, last_use(next));
+        change(&mut self.slots, &mut self.remembered, key, known, next);
+    }
+
     /// Moves an object that isn't idle to `Returning` or `Destroying`.
     pub fn set_phase(&mut self, id: u64, phase: Phase)
         requires present { IsSomeAnd (record_in (records_in self.old.objects) id)
@@ -350,16 +376,10 @@ impl<T> Places<T> {
             ≡ owed_for (records_in self.old.objects) + max_remaining phase }
         ensures spare_capacity { self.old.spare_capacity ≤ self.new.spare_capacity }
     {
-        let key = key_under(&self.index, id);
-        let known = self.slots.known(key);
-        self.counts.remove(known.phase);
-        self.counts.add(phase);
-        let moved = Record {
-            phase,
-            is_new: false,
-            ..known
-        };
-        change(&mut self.slots, &mut self.remembered, key, known, moved);
+        match self.find(id) {
+            Some(known) => self.turn(id, known.phase, Turn::Reach(phase)),
+            None => unreachable!(),
+        }
     }
 
     /// Lends an activated object at time `at` (milliseconds).
@@ -373,19 +393,7 @@ impl<T> Places<T> {
             ≡ owed_for (records_in self.old.objects) + max_remaining phases.Lent }
         ensures spare_capacity { self.old.spare_capacity ≤ self.new.spare_capacity }
     {
-        let key = key_under(&self.index, id);
-        let known = self.slots.known(key);
-        self.counts.remove(Phase::Readying);
-        self.counts.add(Phase::Lent);
-        self.uses.recent = earlier(self.uses.recent, at);
-        let lent = Record {
-            phase: Phase::Lent,
-            lent: at,
-            used: at,
-            is_new: false,
-            ..known
-        };
-        change(&mut self.slots, &mut self.remembered, key, known, lent);
+        self.turn(id, Phase::Readying, Turn::Lend(at));
     }
 
     /// Moves a lent object to `Returning`.
@@ -400,16 +408,7 @@ impl<T> Places<T> {
             ≡ owed_for (records_in self.old.objects) + max_remaining phases.Returning }
         ensures spare_capacity { self.old.spare_capacity ≤ self.new.spare_capacity }
     {
-        let key = key_under(&self.index, id);
-        let known = self.slots.known(key);
-        self.counts.remove(Phase::Lent);
-        self.counts.add(Phase::Returning);
-        let returned = Record {
-            phase: Phase::Returning,
-            is_new: false,
-            ..known
-        };
-        change(&mut self.slots, &mut self.remembered, key, known, returned);
+        self.turn(id, Phase::Lent, Turn::Reach(Phase::Returning));
     }
 
     /// Records that a lent object is used at time `at` (milliseconds).
@@ -422,11 +421,7 @@ impl<T> Places<T> {
         ensures owed { owed_for (records_in self.new.objects) ≡ owed_for (records_in self.old.objects) }
         ensures spare_capacity { self.old.spare_capacity ≤ self.new.spare_capacity }
     {
-        let key = key_under(&self.index, id);
-        let known = self.slots.known(key);
-        self.uses.recent = earlier(at, self.uses.recent);
-        let used = Record { used: at, ..known };
-        change(&mut self.slots, &mut self.remembered, key, known, used);
+        self.turn(id, Phase::Lent, Turn::Use(at));
     }
 
     /// Puts an object at the end of the queue, with its value. The position `parked` is above all in the queue, and
