@@ -356,10 +356,10 @@ impl<T> Places<T> {
         let key = key_under(&self.index, id);
         let known = self.slots.known(key);
         let next = turn.of(known);
+        change(&mut self.slots, &mut self.remembered, key, known, next);
         self.counts.remove(from);
         self.counts.add(next.phase);
         self.uses.recent = earlier(self.uses.recent, last_use(next));
-        change(&mut self.slots, &mut self.remembered, key, known, next);
     }
 
     /// Moves an object that isn't idle to `Returning` or `Destroying`.
@@ -443,8 +443,6 @@ impl<T> Places<T> {
     {
         let key = key_under(&self.index, id);
         let known = self.slots.known(key);
-        self.counts.remove(known.phase);
-        self.counts.add(Phase::Idle);
         self.slots.set_known(
             key,
             Record {
@@ -455,6 +453,8 @@ impl<T> Places<T> {
                 ..known
             },
         );
+        self.counts.remove(known.phase);
+        self.counts.add(Phase::Idle);
         self.slots.put(key, value);
         self.slots.link_last(key);
     }

@@ -11,7 +11,7 @@ fn position_in_a_row(stored: &[Stored], id: u64) -> Option<usize>
     ensures { IfSome result (IsStoredAt stored.now id) }
 {
     let first = stored.first()?;
-    let position = id.checked_sub(first.pair.id)? as usize;
+    let position = id.wrapping_sub(first.pair.id) as usize;
     if stored.get(position)?.pair.id == id {
         Some(position)
     } else {
