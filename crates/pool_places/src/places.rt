@@ -557,8 +557,6 @@ impl<T> Places<T> {
     {
         let key = key_under(&self.index, id);
         let known = self.slots.known(key);
-        self.counts.remove(Phase::Lent);
-        self.counts.add(Phase::Idle);
         let idle = Record {
             phase: Phase::Idle,
             parked,
@@ -566,6 +564,8 @@ impl<T> Places<T> {
             ..known
         };
         self.slots.set_known(key, Record { since, ..idle });
+        self.counts.remove(Phase::Lent);
+        self.counts.add(Phase::Idle);
         self.slots.put(key, value);
         self.slots.link_last(key);
     }
