@@ -1,5 +1,5 @@
 -- The model of a caller, and its invariant.
-use Rattle.std.specs.Prelude.{◌≡◌, ℕ, ◌+◌, List, [], ◌∷◌}
+use Rattle.std.specs.Prelude.{◌≡◌, ℕ, ◌+◌, List, [], ◌∷◌, ◌++◌}
 use Rattle.atomic_table.specs.Seated.{TableId}
 use Rattle.pool_journal.specs.declared.entry.Entry.{Entry}
 use Rattle.pool_settings.specs.declared.settings.Settings.{Settings}
@@ -73,6 +73,18 @@ newcomer_at n = record { number = n; observed = []; appended = []; cut_count = 0
 -- the caller has cut the journal once more
 abbrev pub having_cut : CallerState → CallerState
 having_cut c = record { number = c.number; observed = c.observed; appended = c.appended; cut_count = c.cut_count + 1; cut_positions = c.cut_positions }
+
+-- the caller has observed the history of the authoritative pass and all of its cuts
+abbrev pub having_observed : View → CallerState → CallerState
+having_observed v c = record { number = c.number; observed = v.history; appended = c.appended; cut_count = c.cut_count; cut_positions = v.cut_positions }
+
+-- the caller has appended an entry, after all that it had observed
+abbrev pub having_appended : Entry → CallerState → CallerState
+having_appended e c = record { number = c.number; observed = c.observed ++ e ∷ []; appended = c.appended ++ e ∷ []; cut_count = c.cut_count; cut_positions = c.cut_positions }
+
+-- the state of the caller with this number and this pass
+abbrev pub state_of : ℕ → View → CallerState
+state_of n v = record { number = n; observed = observed_in v.fragments; appended = appended_in v.fragments; cut_count = cut_count_in v.fragments; cut_positions = cut_positions_in v.fragments }
 
 -- the fragment of a caller in this state
 abbrev pub fragment_of : Settings → CallerState → Fragment

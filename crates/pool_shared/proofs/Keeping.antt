@@ -13,11 +13,10 @@ use Rattle.pool_core.specs.Laws.{AtMostMaxTotal}
 use Rattle.pool_core.specs.Legal.{IsLegal, entry_of}
 use Rattle.pool_core.proofs.Lawful.{keeps_laws}
 use Rattle.pool_history.specs.declared.room.View.{View}
-use Rattle.pool_history.specs.CallerStates.{CallerState, Advances, CallerInvariant}
+use Rattle.pool_history.specs.CallerStates.{CallerState, state_of, Advances, CallerInvariant}
 use Rattle.pool_history.proofs.Ownership.{at_seam, last_here}
 use Rattle.pool_shared.specs.declared.faults.BorrowFault.{BorrowFault}
 use Rattle.pool_shared.specs.declared.lent.Lent.{Lent}
-use Rattle.pool_lock.proofs.Sections.{state_of}
 use Rattle.pool_calls.specs.declared.stage.Stage.{Stage}
 use Rattle.pool_shared.specs.Borrows.{BorrowsFrom}
 use Rattle.pool_shared.specs.Promises.{IsAlone}
