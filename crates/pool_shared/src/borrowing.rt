@@ -44,6 +44,7 @@ impl<T: Drop, E: Drop, F: Factory<T, E> + Drop, C: Clock + Drop, B: Room> Shared
     B,
 > {
     // Runs a critical section in which the caller continues its object. It never fails.
+    #[inline(always)]
     pub(crate) fn complete<R: Wait>(&self, rt: &R, me: &mut Caller<B>, input: Input) -> Answer
         requires permitted { IsPermitted me.old input }
         requires on { continues_object input ≡ true }

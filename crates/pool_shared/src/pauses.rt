@@ -32,6 +32,7 @@ impl Pauses {
     }
 
     /// Pauses. Returns false, without a pause, if there were as many as a wait may have.
+    #[inline(never)]
     pub(crate) fn pause(&mut self) -> bool {
         if self.left == 0 {
             return false;

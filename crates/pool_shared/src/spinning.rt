@@ -35,14 +35,22 @@ impl<T> PausingMutex<T> {
     }
 }
 
-/// Takes the lock, and returns its guard. A thread tries it after each of several pauses before it waits in the lock.
-/// While it pauses, another thread keeps what the lock protects in its processor's cache, for many critical sections.
+/// Takes the lock, and returns its guard.
+#[inline(always)]
 pub(crate) fn lock<'a, T, R: Wait>(rt: &R, pausing: &'a PausingMutex<T>) -> MutexGuard<'a, T> {
     let mutex: &'a Mutex<T> = &pausing.mutex;
     pausing.give_way();
-    if let Some(guard) = mutex.try_lock() {
-        return guard;
+    match mutex.try_lock() {
+        Some(guard) => guard,
+        None => lock_after_pauses(rt, pausing),
     }
+}
+
+/// Takes a lock that another thread has. The thread tries it after each of several pauses before it waits in the lock.
+/// While it pauses, another thread keeps what the lock protects in its processor's cache, for many critical sections.
+#[inline(never)]
+fn lock_after_pauses<'a, T, R: Wait>(rt: &R, pausing: &'a PausingMutex<T>) -> MutexGuard<'a, T> {
+    let mutex: &'a Mutex<T> = &pausing.mutex;
     let mut pauses = Pauses::new();
     for _ in 0..CALLS {
         if !pauses.pause() {
