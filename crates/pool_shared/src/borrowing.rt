@@ -182,6 +182,7 @@ impl<T: Drop, E: Drop, F: Factory<T, E> + Drop, C: Clock + Drop, B: Room> Shared
     }
 
     // Lends a ready object.
+    #[inline(always)]
     fn lend<R: Wait>(&self, rt: &R, me: &mut Caller<B>, id: u64, value: T) -> Lent<T>
         requires owns { (new : Bool) × OwnsObject me.old id phases.Readying new }
         ensures advances { Advances B.settings me.old me.new }
