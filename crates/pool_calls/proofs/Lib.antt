@@ -7,4 +7,5 @@ pub mod Found
 pub mod Marked
 pub mod Nearing
 pub mod Orders
+pub mod Reading
 pub mod There

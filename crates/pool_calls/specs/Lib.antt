@@ -12,3 +12,4 @@ pub mod Tallies
 pub mod Tasks
 pub mod Turns
 pub mod Waiting
+pub mod Words

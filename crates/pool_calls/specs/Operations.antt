@@ -55,6 +55,10 @@ is_making op = rules.is_making op.place
 abbrev pub is_waiting : Operation → Bool
 is_waiting op = rules.is_waiting op.place
 
+-- it is over
+abbrev pub is_over : Operation → Bool
+is_over op = rules.is_over op.place
+
 -- it comes to wait with this event
 abbrev pub comes_to_wait : Event → Operation → Bool
 comes_to_wait event op = rules.comes_to_wait op.kind event op.place

@@ -63,6 +63,11 @@ abbrev pub asks_wait : Action → Bool
 asks_wait actions.Wait = true
 asks_wait _ = false
 
+-- the call is over
+abbrev pub is_done : Action → Bool
+is_done (actions.Done e) = true
+is_done _ = false
+
 -- a step was not taken, since the journal has no room
 abbrev pub is_full : Event → Bool
 is_full (events.NotTaken failures.JournalFull) = true

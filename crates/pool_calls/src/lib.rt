@@ -18,14 +18,18 @@ mod stored;
 mod sweeping;
 mod tally;
 mod waiters;
+mod words;
 mod work;
 
 pub use action::{Action, End, Event, StepFailure};
 pub use kind::Kind;
-pub use laws::{calls_given_up_end_soon, only_destroyed_objects_are_freed};
-pub use operation::Operation;
+pub use laws::{
+    calls_given_up_end_soon, numbers_are_of_one_call, only_destroyed_objects_are_freed,
+};
+pub use operation::{Operation, OperationWords};
 pub use plan::Plan;
 pub use stage::{Object, Place, Request, Stage};
 pub use tally::Tally;
 pub use waiters::Waiters;
+pub use words::{flag, is_set};
 pub use work::{Task, Work};

@@ -7,9 +7,10 @@ ghost use Rattle.pool_calls.specs.Rules as rules;
 ghost use Rattle.pool_calls.specs.Rules.{work_left, step_for};
 ghost use Rattle.pool_calls.specs.Steps.{is_borrow};
 ghost use Rattle.pool_calls.specs.Tallies.{tally_after};
-ghost use Rattle.pool_calls.specs.Turns.{Turn, step_of, asks_make, asks_room, asks_wait, is_full, IsFirst};
+ghost use Rattle.pool_calls.specs.Turns.{Turn, step_of, asks_make, asks_room, asks_wait, is_done, is_full, IsFirst};
 
 mod after;
+mod words;
 
 use crate::action::{Action, End, Event};
 use crate::answers::works;
@@ -19,6 +20,7 @@ use crate::stage::{Place, Request, Stage};
 use crate::tally::Tally;
 use crate::work::Task;
 use pool_journal::{Answer, Input, Outcome, When};
+pub use words::OperationWords;
 
 /// A call: what its host does next, and what follows from what the host reports.
 ///
@@ -36,7 +38,7 @@ pub struct Operation {
 }
 
 impl Operation {
-    ghost use Rattle.pool_calls.specs.Operations.{HasCome, ComesOn, IsRight, Proceeds, began_of, comes_to_wait, fits, is_making, is_waiting, lacks_room, step_at};
+    ghost use Rattle.pool_calls.specs.Operations.{HasCome, ComesOn, IsRight, Proceeds, began_of, comes_to_wait, fits, is_making, is_over, is_waiting, lacks_room, step_at};
 
     /// Returns a call of this kind.
     #[tactic(auto, unfolding(crate::specs::Operations::HasCome))]
@@ -108,6 +110,7 @@ impl Operation {
         ensures room { asks_room result ≡ lacks_room self.now }
         ensures wait { asks_wait result ≡ is_waiting self.now }
         ensures make { asks_make result ≡ is_making self.now }
+        ensures over { is_done result ≡ is_over self.now }
     {
         match self.place {
             Place::Asks(request) => Action::Step(self.step_for(request)),

@@ -36,6 +36,18 @@ impl Place {
         )
     }
 
+    // Whether a call that is given up may be here: it is over after three more reports at most.
+    #[inline(always)]
+    pub(crate) fn ends_soon(&self) -> bool
+        ensures soon { result ≡ true → reports_left self.now ≤ 3 }
+        ensures late { result ≡ false → 3 < reports_left self.now }
+    {
+        !matches!(
+            self,
+            Place::Asks(_) | Place::LacksRoom(_) | Place::Waits | Place::Works(_, _)
+        )
+    }
+
     // The place after a task that failed.
     pub(crate) fn failed(self) -> Place
         ensures place { result ≡ failed self }

@@ -6,6 +6,7 @@ use crate::kind::Kind;
 use pool_journal::Answer;
 
 /// The counts of a call. They stay at 2^64 - 1.
+#[repr(C)]
 #[derive(Clone, Copy)]
 pub struct Tally {
     /// How many objects a fill parked, an eviction run examined, a removal reclaimed, or a clear or a close took.

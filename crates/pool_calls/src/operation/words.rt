@@ -1,0 +1,69 @@
+//! A call in progress as plain numbers, for a host that keeps it.
+ghost use Rattle.std.specs.Prelude.{◌≡◌, not, IfSome, IfNone};
+ghost use Rattle.std.specs.Option.{is_some};
+ghost use Rattle.pool_calls.specs.Operations.{is_over};
+ghost use Rattle.pool_calls.specs.Words.{Reads, ReadsNone};
+
+use super::Operation;
+use crate::stage::Place;
+use crate::tally::Tally;
+use crate::words::{PlaceWords, PlanWords, flag, is_set, kind_in, words_of_kind};
+
+/// A call in progress as plain numbers.
+#[repr(C)]
+#[derive(Clone, Copy)]
+pub struct OperationWords {
+    place: PlaceWords,
+    tally: Tally,
+    // The time or the id of the kind; 0 if it has none.
+    number: u64,
+    kind: u8,
+    given_up: u8,
+    plan: PlanWords,
+}
+
+impl Operation {
+    /// Returns the call as plain numbers; `None` if it is over.
+    #[inline(always)]
+    pub fn words(&self) -> Option<OperationWords>
+        ensures reads { IfSome result (λ w. Reads w self.now) }
+        ensures over { is_some result ≡ not (is_over self.now) }
+    {
+        let place = PlaceWords::of(self.place)?;
+        let (kind, number) = words_of_kind(self.kind);
+        Some(OperationWords {
+            place,
+            tally: self.tally,
+            number,
+            kind,
+            given_up: flag(self.given_up),
+            plan: PlanWords::of(&self.plan),
+        })
+    }
+}
+
+impl OperationWords {
+    /// Returns the call that has these numbers, if there is one.
+    #[inline(always)]
+    pub fn operation(&self) -> Option<Operation>
+        ensures reads { IfSome result (λ op. Reads self.now op) }
+        ensures none { IfNone result (ReadsNone self.now) }
+    {
+        let kind = kind_in(self.kind, self.number)?;
+        let place = self.place.place()?;
+        let given_up = is_set(self.given_up);
+        if given_up && !place.ends_soon() {
+            return None;
+        }
+        if matches!(place, Place::Waits) && !kind.is_borrow() {
+            return None;
+        }
+        Some(Operation {
+            kind,
+            plan: self.plan.plan(),
+            given_up,
+            tally: self.tally,
+            place,
+        })
+    }
+}
