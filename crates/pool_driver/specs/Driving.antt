@@ -20,11 +20,10 @@ use Rattle.pool_core.specs.Legal.{entry_of}
 use Rattle.pool_core.specs.Pool.{CoreModel}
 use Rattle.pool_core.specs.Reconfigured.{reconfigured}
 use Rattle.pool_core.specs.Reply.{reply_from, takeable_from}
-use Rattle.pool_calls.specs.Operations.{HasCome, Follows, IsRight, Proceeds, began_of, fits, is_making, is_waiting, lacks_room, step_at}
-use Rattle.pool_calls.specs.Turns.{Turn, asks_room, step_of}
+use Rattle.pool_calls.specs.Operations.{HasCome, Follows, IsRight, Proceeds, began_of, fits, is_making, is_over, is_waiting, lacks_room, step_at}
+use Rattle.pool_calls.specs.Turns.{Turn, asks_room, is_done, step_of}
 use Rattle.pool_calls.specs.Waiting.{Queue, Waiter, is_in, is_limited, may_lend, overtaken_once, signalled_of, takes_from_waiters}
 use Rattle.pool_calls.specs.declared.action.Action.{Action}
-use Rattle.pool_calls.specs.declared.action.Action.TheVariants as actions
 use Rattle.pool_calls.specs.declared.action.Event.TheVariants as events
 use Rattle.pool_calls.specs.declared.action.StepFailure.{StepFailure}
 use Rattle.pool_calls.specs.declared.action.StepFailure.TheVariants as failures
@@ -155,11 +154,7 @@ pub record IsNext (op : Operation) (action : Action) : Type 0 where
   pub right : (turns : List Turn) → HasCome op turns → IsRight op turns action
   pub step : step_of action ≡ step_at op
   pub room : asks_room action ≡ lacks_room op
-
--- the call is over
-abbrev pub is_done : Action → Bool
-is_done (actions.Done e) = true
-is_done _ = false
+  pub over : is_done action ≡ is_over op
 
 -- the call, with the token that a report tells
 abbrev pub told : Report → Call → Call

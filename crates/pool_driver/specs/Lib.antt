@@ -1,3 +1,4 @@
 pub mod Driving
 pub mod Overtaking
 pub mod Queueing
+pub mod Words

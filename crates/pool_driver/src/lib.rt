@@ -13,6 +13,7 @@ mod pool;
 mod report;
 mod stepping;
 mod waiting;
+mod words;
 
 pub use call::Call;
 pub use effects::Effects;
@@ -20,3 +21,4 @@ pub use hooks::Hooks;
 pub use options::Options;
 pub use pool::DrivenPool;
 pub use report::Report;
+pub use words::CallWords;

@@ -2,6 +2,7 @@
 ghost use Rattle.std.specs.Prelude.{◌≡◌, ◌-◌, ◌&&◌, ◌||◌, IfSome, Some, None, true, false, max, length};
 ghost use Rattle.std.specs.Option.{is_some};
 ghost use Rattle.pool_calls.specs.Operations.{Proceeds, fits, is_waiting, lacks_room, step_at};
+ghost use Rattle.pool_calls.specs.Turns.{is_done};
 ghost use Rattle.pool_calls.specs.Waiting.{may_lend, most_overtaken, takes_from_waiters};
 ghost use Rattle.pool_core.specs.Legal.{entry_of};
 ghost use Rattle.pool_journal.specs.Base.{closed_from};
@@ -10,7 +11,7 @@ ghost use Rattle.pool_calls.specs.declared.action.Event.TheVariants as events;
 ghost use Rattle.pool_driver.specs.declared.report.Report.TheVariants as reports;
 ghost use Rattle.pool_driver.specs.Queueing.{Queues};
 ghost use Rattle.pool_driver.specs.Overtaking.{CountsOvertakes, Hears, Rests, is_found, is_newcomer, others};
-ghost use Rattle.pool_driver.specs.Driving.{Accepts, EndsWith, HasRoom, IsAvailable, IsWoken, LacksRoomOnlyEmpty, LooksIf, Moves, TakesFirst, available_in, is_low_in, may_come_in, passed, until_of, is_done, has_waited, sleeps_until, waking_at, waking_of, waits_on};
+ghost use Rattle.pool_driver.specs.Driving.{Accepts, EndsWith, HasRoom, IsAvailable, IsWoken, LacksRoomOnlyEmpty, LooksIf, Moves, TakesFirst, available_in, is_low_in, may_come_in, passed, until_of, has_waited, sleeps_until, waking_at, waking_of, waits_on};
 
 use crate::call::Call;
 use crate::pool::DrivenPool;

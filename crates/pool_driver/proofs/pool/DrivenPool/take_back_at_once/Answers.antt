@@ -1,4 +1,4 @@
-use Rattle.std.proofs.Common.{◌≡◌, ℕ, max, refl, ap, sym, ◌∙◌, subst}
+use Rattle.std.proofs.Common.{ℕ, max, refl, ap, sym, ◌∙◌, subst}
 use Rattle.pool_driver.specs.Driving.{DrivenModel, TakesBackAtOnce, asks_at_return}
 use Rattle.pool_driver.proofs.pool.DrivenPool.take_back_at_once.Goals as goal
 

@@ -1,0 +1,61 @@
+//! A call in progress as plain numbers, for a host that keeps it.
+ghost use Rattle.std.specs.Prelude.{◌≡◌, not, IfSome, IfNone};
+ghost use Rattle.std.specs.Option.{is_some};
+ghost use Rattle.pool_calls.specs.Operations.{is_over};
+ghost use Rattle.pool_driver.specs.Words.{Reads, ReadsNone};
+
+use crate::call::Call;
+use pool_calls::{OperationWords, flag, is_set};
+
+/// A call in progress as plain numbers.
+#[repr(C)]
+#[derive(Clone, Copy)]
+pub struct CallWords {
+    operation: OperationWords,
+    token: u64,
+    // The ticket, if it has one.
+    ticket: u64,
+    longer: u64,
+    has_ticket: u8,
+    was_served: u8,
+}
+
+impl Call {
+    /// Returns the call as plain numbers; `None` if it is over.
+    #[inline(always)]
+    pub fn words(&self) -> Option<CallWords>
+        ensures reads { IfSome result (λ w. Reads w self.now) }
+        ensures over { is_some result ≡ not (is_over self.now.operation) }
+    {
+        Some(CallWords {
+            operation: self.operation.words()?,
+            token: self.token,
+            ticket: self.ticket.unwrap_or(0),
+            longer: self.longer,
+            has_ticket: flag(self.ticket.is_some()),
+            was_served: flag(self.was_served),
+        })
+    }
+}
+
+impl CallWords {
+    /// Returns the call that has these numbers, if there is one.
+    #[inline(always)]
+    pub fn call(&self) -> Option<Call>
+        ensures reads { IfSome result (λ c. Reads self.now c) }
+        ensures none { IfNone result (ReadsNone self.now) }
+    {
+        let ticket = if is_set(self.has_ticket) {
+            Some(self.ticket)
+        } else {
+            None
+        };
+        Some(Call {
+            operation: self.operation.operation()?,
+            token: self.token,
+            ticket,
+            was_served: is_set(self.was_served),
+            longer: self.longer,
+        })
+    }
+}
