@@ -79,9 +79,7 @@ static bool give_back(uint64_t id, uint64_t *ticket) {
 static bool wait(struct waiting *waiting) {
   const struct zuphinka_start start = {.kind = ZUPHINKA_KIND_BORROW};
   struct zuphinka_effects effects;
-  uint32_t status = zuphinka_begin(&pool, &start, &waiting->call, &effects);
-  if (status == ZUPHINKA_STATUS_OUT_OF_MEMORY) return false;
-  check(status == ZUPHINKA_STATUS_DONE && !effects.has_wake, "a borrow failed, or wakes another");
+  check(zuphinka_begin(&pool, &start, &waiting->call, &effects) == ZUPHINKA_STATUS_DONE && !effects.has_wake, "a borrow failed, or wakes another");
   waiting->ticket = effects.ticket;
   if (effects.action == ZUPHINKA_ACTION_SLEEP && effects.has_ticket) return true;
   check(effects.action == ZUPHINKA_ACTION_DONE && effects.end == ZUPHINKA_END_OUT_OF_MEMORY, "a borrow does not wait");

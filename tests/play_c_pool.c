@@ -2671,7 +2671,7 @@ static uint32_t begin(struct zuphinka *pool, uint32_t kind, struct zuphinka_call
   return zuphinka_begin(pool, &start, call, effects);
 }
 
-static uint32_t advance(struct zuphinka *pool, const struct zuphinka_call *call, uint32_t report, struct zuphinka_effects *effects) {
+static uint32_t advance(struct zuphinka *pool, struct zuphinka_call *call, uint32_t report, struct zuphinka_effects *effects) {
   const struct zuphinka_event event = {.object = &maker, .report = report};
   return zuphinka_advance(pool, call, &event, effects);
 }
@@ -2718,13 +2718,15 @@ static void refuse(struct zuphinka *pool, const struct zuphinka_call *call, uint
   struct stored stored;
   struct told before = tell(pool);
   memset(&stored, 'u', sizeof stored);
-  uint32_t found = call ? advance(pool, call, code, &stored.effects) : begin(pool, code, &stored.call, &stored.effects);
+  struct zuphinka_call same = call ? *call : stored.call;
+  uint32_t found = call ? advance(pool, &same, code, &stored.effects) : begin(pool, code, &stored.call, &stored.effects);
   check_refused(found, status, &stored, pool, &before);
+  check(!call || memcmp(&same, call, sizeof same) == 0);
 }
 
 static void test_calls_of_an_empty_handle(void) {
   struct zuphinka pool = {.at = NULL};
-  struct zuphinka_call call = {.number = 0};
+  struct zuphinka_call call = {.words = {0}};
   struct zuphinka_activity state = {.waiting = 7};
   uint64_t ticket = 7;
   bool is_lent = true;
@@ -2976,7 +2978,7 @@ static void test_many_loans_at_once(void) {
 }
 
 /* Reports at a time that a call was woken. */
-static void wake_at(struct zuphinka *pool, const struct zuphinka_call *call, uint64_t at, struct zuphinka_effects *effects) {
+static void wake_at(struct zuphinka *pool, struct zuphinka_call *call, uint64_t at, struct zuphinka_effects *effects) {
   const struct zuphinka_event event = {.at = at, .report = ZUPHINKA_REPORT_WOKEN};
   check(zuphinka_advance(pool, call, &event, effects) == ZUPHINKA_STATUS_DONE);
 }
@@ -3088,14 +3090,16 @@ static bool fits(uint32_t action, uint32_t report) {
   }
 }
 
-/* Each report that does not fit the action of a call is refused; so is each of another call, of a call of another pool, and each unknown one. */
+/* Each report that does not fit the action of a call is refused; so is each to a struct without a call, to a call of another pool, and each unknown
+ * one. */
 static void refuse_all(struct zuphinka *pool, const struct zuphinka_call *call, uint32_t action) {
   static struct zuphinka other;
-  const struct zuphinka_call wrong[] = {{call->pool + 1, call->place, call->number},
-                                        {call->pool, call->place + 1, call->number},
-                                        {call->pool, UINT64_MAX, call->number},
-                                        {call->pool, call->place, call->number + 1}};
-  if (!other.at) other = open_driven(call->pool + 1, "");
+  struct zuphinka_call wrong[3];
+  memset(&wrong[0], 0, sizeof *wrong);
+  memset(&wrong[1], 'u', sizeof *wrong);
+  wrong[2] = *call;
+  memset(&wrong[2].words[2], 'u', sizeof *wrong - 2 * sizeof *wrong[2].words); /* the words after the mark and the pool */
+  if (!other.at) other = open_driven(2, "");
   for (uint32_t report = 0; report <= ZUPHINKA_REPORT_GIVEN_UP + 1; report++) {
     bool is_known = report >= ZUPHINKA_REPORT_GO_ON && report <= ZUPHINKA_REPORT_GIVEN_UP;
     for (size_t n = 0; n < sizeof wrong / sizeof *wrong; n++) refuse(pool, &wrong[n], report, ZUPHINKA_STATUS_NO_CALL);
@@ -3111,7 +3115,7 @@ static void refuse_all(struct zuphinka *pool, const struct zuphinka_call *call, 
 
 /* Makes a call whose actions all succeed, and tries all that is refused before each. Returns how it ended. */
 static uint32_t drive_call(struct zuphinka *pool, uint32_t kind, const char *actions, struct zuphinka_effects *effects) {
-  struct zuphinka_call call;
+  struct zuphinka_call call = {.words = {0}};
   check(begin(pool, kind, &call, effects) == ZUPHINKA_STATUS_DONE);
   for (; effects->action != ZUPHINKA_ACTION_DONE; actions++) {
     check(*actions == "?grmavpds"[effects->action]);
@@ -3128,7 +3132,7 @@ static uint32_t drive_call(struct zuphinka *pool, uint32_t kind, const char *act
 static void test_refused_reports(void) {
   struct zuphinka pool = open_driven(1, "maxTotal = 1\ntestOnBorrow = true\ntestOnReturn = true\n");
   struct zuphinka_effects effects;
-  struct zuphinka_call waiting;
+  struct zuphinka_call waiting = {.words = {0}};
   check(drive_call(&pool, ZUPHINKA_KIND_BORROW, "mav", &effects) == ZUPHINKA_END_LENT && effects.object == &maker);
   check(begin(&pool, ZUPHINKA_KIND_BORROW, &waiting, &effects) == ZUPHINKA_STATUS_DONE);
   check(effects.action == ZUPHINKA_ACTION_SLEEP && effects.has_ticket);
@@ -3149,13 +3153,32 @@ static void test_refused_reports(void) {
 static void test_refused_reports_without_room(void) {
   struct zuphinka pool = open_driven(1, "journalLimit = 5\n");
   struct zuphinka_effects effects;
-  struct zuphinka_call call;
+  struct zuphinka_call call = {.words = {0}};
   check(begin(&pool, ZUPHINKA_KIND_BORROW, &call, &effects) == ZUPHINKA_STATUS_DONE && effects.action == ZUPHINKA_ACTION_MAKE_ROOM);
   refuse_all(&pool, &call, effects.action);
   check(advance(&pool, &call, ZUPHINKA_REPORT_NO_ROOM, &effects) == ZUPHINKA_STATUS_DONE);
   check(effects.action == ZUPHINKA_ACTION_DONE && effects.end == ZUPHINKA_END_JOURNAL_FULL);
   refuse_all(&pool, &call, effects.action);
   zuphinka_drop(&pool);
+}
+
+/* A report to a call with a wrong byte is taken or refused, whatever byte that is, and the pool goes on. */
+static void test_wrong_bytes(void) {
+  static const unsigned char wrong[] = {0, 1, 2, 3, 4, 5, 6, 7, 8, 11, 128, 255};
+  for (size_t at = 0; at < sizeof(struct zuphinka_call); at++) {
+    for (size_t n = 0; n < sizeof wrong; n++) {
+      struct zuphinka pool = open_driven(1, "testOnBorrow = true\n");
+      struct zuphinka_call call;
+      struct zuphinka_effects effects;
+      check(begin(&pool, ZUPHINKA_KIND_BORROW, &call, &effects) == ZUPHINKA_STATUS_DONE);
+      check(advance(&pool, &call, ZUPHINKA_REPORT_MADE, &effects) == ZUPHINKA_STATUS_DONE && effects.action == ZUPHINKA_ACTION_ACTIVATE);
+      memset((unsigned char *)call.words + at, wrong[n], 1);
+      uint32_t report = n % 2 ? ZUPHINKA_REPORT_SUCCEEDED : ZUPHINKA_REPORT_GIVEN_UP, status = advance(&pool, &call, report, &effects);
+      check(status == ZUPHINKA_STATUS_DONE || status == ZUPHINKA_STATUS_NO_CALL || status == ZUPHINKA_STATUS_MISFIT);
+      check(begin(&pool, ZUPHINKA_KIND_BORROW, &call, &effects) == ZUPHINKA_STATUS_DONE && effects.action == ZUPHINKA_ACTION_MAKE);
+      zuphinka_drop(&pool);
+    }
+  }
 }
 
 static bool has_counts(const struct zuphinka_effects *effects, uint64_t count, uint64_t freed) {
@@ -3687,6 +3710,7 @@ static const struct {
     TEST(unknown_kinds),
     TEST(refused_reports),
     TEST(refused_reports_without_room),
+    TEST(wrong_bytes),
     TEST(counts_of_calls),
 };
 

@@ -21,9 +21,9 @@ LIBRARY and with the kit's heap.
   tests/pool_model.py has, which POOL must judge legal together.
 - many: the same of a pool that makes OBJECTS of them and parks most, and is cut where all are lent; and the segments of `long_life`, each named
   for its first entry, also of a run under valgrind. A second run over the same folder must end early, and replace none.
-- crowd: so many borrows as in CROWDS wait for one object, and each gets it in its turn (tests/crowd.c). Memory is taken for the lists of calls in
-  progress and of entries as they double, and for more tickets than TICKETS; and for nothing else. Each of the borrows' allocations is refused in turn:
-  then one borrow ends for lack of memory, and all others are served. Also under valgrind.
+- crowd: so many borrows as in CROWDS wait for one object, and each gets it in its turn (tests/crowd.c). Memory is taken for the list of entries as it
+  doubles, and for more tickets than TICKETS; and for nothing else. Each of the borrows' allocations is refused in turn: then one borrow ends for lack of
+  memory, and all others are served. Also under valgrind.
 
 What needs valgrind or a compiler that is missing is skipped, with the reason.
 """
@@ -147,13 +147,13 @@ def crowds(crowd):
     runs = []
     for size in CROWDS:
         (*ends, waited, first, served, by_pairs), told = crowd_of(crowd, str(size), "0")
-        lists = 1 if size <= TICKETS else 3  # the calls in progress; and the tickets, in two lists
-        has_few = 1 <= waited <= lists * size.bit_length() + 2 and first <= TICKETS.bit_length() + 2
+        lists = 2 * (size > TICKETS)  # of tickets
+        has_few = lists <= waited <= lists * size.bit_length() and first == 0
         is_served = ends == [size, 0] and has_few and 1 <= served + by_pairs <= (4 * (size + 1_000)).bit_length() + 2
         yield [told] * (not is_served)
         runs += [([crowd], size, refused) for refused in range(1, waited + 1)]
     if has("a crowd under valgrind", "valgrind"):
-        runs.append(([*VALGRIND, crowd], CROWDS[0], 2))
+        runs.append(([*VALGRIND, crowd], CROWDS[-1], 2))
     for words, size, refused in runs:
         numbers, told = crowd_of(*words, str(size), str(refused))
         yield [told] * (numbers[:2] != [size - 1, 1])

@@ -23,6 +23,8 @@
  *
  * What is proved holds for callers that keep these rules. Nothing checks them.
  *   - Zero a handle (`struct zuphinka pool = {0};`) before its first call. Do not copy it and do not write to it. A zeroed handle is empty.
+ *   - Each report to a call passes its `struct zuphinka_call` as the last report left it. It may be moved. A copy from before a report is not the call
+ *     any more: the pool would take the report, for another course of the call than the one that it has.
  *   - Each pointer points to memory of its type or length, writable unless it is const. No pointer is null, even that of a text of no bytes.
  *     The pointers of one call do not overlap each other or the handle.
  *   - One call runs on a handle at a time. Threads that share a pool hold a lock of the host's during each call. Each call may write to the
@@ -100,7 +102,7 @@ enum zuphinka_status {
   ZUPHINKA_STATUS_UNKNOWN_KEY = 10,     /* no setting has the key */
   ZUPHINKA_STATUS_WRONG_TYPE = 11,      /* the value of a key has another type */
   ZUPHINKA_STATUS_OUT_OF_RANGE = 12,    /* the number of a key is out of its range */
-  ZUPHINKA_STATUS_NO_CALL = 13,         /* the pool has no such call in progress */
+  ZUPHINKA_STATUS_NO_CALL = 13,         /* the struct has no call in progress of the pool */
   ZUPHINKA_STATUS_MISFIT = 14,          /* the report does not fit the last action of the call */
   ZUPHINKA_STATUS_NO_WAKE = 15,         /* no call is to be woken */
   ZUPHINKA_STATUS_NOT_AT_ONCE = 16      /* the call is not over at once: it is to be begun */
@@ -265,9 +267,9 @@ struct zuphinka_start {
   uint32_t kind;   /* enum zuphinka_kind */
 };
 
-/* A call in progress. Only the library uses its fields. It may be copied, and a copy is the same call. */
+/* A call in progress, which the host keeps from its beginning to its end. Only the library reads and writes its words. */
 struct zuphinka_call {
-  uint64_t pool, place, number;
+  uint64_t words[13];
 };
 
 /* What became of the last action of a call. */
@@ -366,7 +368,7 @@ _Static_assert(sizeof(void *) == 8 && sizeof(size_t) == 8, "zuphinka.h is for 64
 _Static_assert(sizeof(struct zuphinka_request) == 40 && sizeof(struct zuphinka_reply) == 32, "zuphinka.h: another layout of structs");
 _Static_assert(sizeof(struct zuphinka_setup) == 72, "zuphinka.h: another layout of structs");
 _Static_assert(sizeof(struct zuphinka_options) == 24 && sizeof(struct zuphinka_activity) == 24, "zuphinka.h: another layout of structs");
-_Static_assert(sizeof(struct zuphinka_start) == 32 && sizeof(struct zuphinka_call) == 24, "zuphinka.h: another layout of structs");
+_Static_assert(sizeof(struct zuphinka_start) == 32 && sizeof(struct zuphinka_call) == 104, "zuphinka.h: another layout of structs");
 _Static_assert(sizeof(struct zuphinka_event) == 24 && sizeof(struct zuphinka_effects) == 72, "zuphinka.h: another layout of structs");
 #endif
 
@@ -483,27 +485,24 @@ uint32_t zuphinka_reconfigure(struct zuphinka *pool, const char *settings, size_
 void zuphinka_drop(struct zuphinka *pool);
 
 /*
- * Opens a pool as `zuphinka_open` does, with options. With all options 0 it is the same. Sets aside the memory of 1,024 calls that wait and of one
- * call in progress.
+ * Opens a pool as `zuphinka_open` does, with options. With all options 0 it is the same. Sets aside the memory of 1,024 calls that wait.
  */
 uint32_t zuphinka_open_with(struct zuphinka *pool, const char *settings, size_t length, const struct zuphinka_options *options);
 
 /*
  * Begins a call, and takes its first steps: those that follow each other without the host, at most 64. Stores in `effects` what the host does
- * next, and in `call` the call, which is in progress until its action is ZUPHINKA_ACTION_DONE. If that is the first action, `call` need not be kept.
+ * next, and in `call` the call, which is in progress until its action is ZUPHINKA_ACTION_DONE. What `call` had before does not matter.
  *
  * A borrow of an idle object without activation or test is over at once, and so is the return of an object without test or passivation. Neither
- * allocates memory if the pool has as many objects and calls in progress as before.
+ * allocates memory if the pool has as many objects as before.
  *
  * The host holds its lock during a call of the library, and not while it acts or sleeps. After each call of `zuphinka_begin` and
  * `zuphinka_advance` it wakes the call whose ticket is `wake`, if there is one, and then those of `zuphinka_next_wake` until none is left. After a
  * step by `zuphinka_step` it does the latter. A call that is woken reports ZUPHINKA_REPORT_WOKEN; if it is still not its turn, its action is
  * ZUPHINKA_ACTION_SLEEP again. Times never decrease: a call at an earlier time than one before it is taken at that of the latter.
  *
- * Returns ZUPHINKA_STATUS_DONE. Errors leave the pool, `call` and `effects` unchanged:
- *   - ZUPHINKA_STATUS_NOT_OPEN; ZUPHINKA_STATUS_BAD_REQUEST, if `kind` has a wrong code;
- *   - ZUPHINKA_STATUS_OUT_OF_MEMORY, if there is no memory for one more call in progress. It does not come to the return, invalidation or
- *     detachment of an object that was lent by a call or taken by `zuphinka_take`, nor to the close of an open pool: their memory is set aside.
+ * Returns ZUPHINKA_STATUS_DONE. Errors leave the pool, `call` and `effects` unchanged: ZUPHINKA_STATUS_NOT_OPEN; ZUPHINKA_STATUS_BAD_REQUEST, if
+ * `kind` has a wrong code.
  */
 uint32_t zuphinka_begin(struct zuphinka *pool, const struct zuphinka_start *start, struct zuphinka_call *call,
                         struct zuphinka_effects *effects);
@@ -512,11 +511,12 @@ uint32_t zuphinka_begin(struct zuphinka *pool, const struct zuphinka_start *star
  * Goes on with a call in progress after a report of what became of its last action, as `zuphinka_begin` does. Once its action is
  * ZUPHINKA_ACTION_DONE it is in progress no more.
  *
- * Returns ZUPHINKA_STATUS_DONE. Errors leave the pool and `effects` unchanged, and the call in progress:
- *   - ZUPHINKA_STATUS_NOT_OPEN; ZUPHINKA_STATUS_NO_CALL, exactly if no such call is in progress: it is over, or of a pool with another number;
+ * Returns ZUPHINKA_STATUS_DONE. Errors leave the pool, `call` and `effects` unchanged:
+ *   - ZUPHINKA_STATUS_NOT_OPEN; ZUPHINKA_STATUS_NO_CALL, exactly if `call` has no call in progress of a pool with this number: it is over, of a pool
+ *     with another number, or none that the library has written;
  *   - ZUPHINKA_STATUS_BAD_REQUEST, if `report` has a wrong code; ZUPHINKA_STATUS_MISFIT, if the report does not fit the last action.
  */
-uint32_t zuphinka_advance(struct zuphinka *pool, const struct zuphinka_call *call, const struct zuphinka_event *event,
+uint32_t zuphinka_advance(struct zuphinka *pool, struct zuphinka_call *call, const struct zuphinka_event *event,
                           struct zuphinka_effects *effects);
 
 /*

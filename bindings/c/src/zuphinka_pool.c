@@ -132,7 +132,6 @@ static inline bool run_at_once(struct zuphinka_pool *pool, struct run *run) {
 /* Makes a call from its beginning to its end, with the lock held before and after, and not while a callback runs. Returns its error. */
 static enum zuphinka_pool_error drive(struct zuphinka_pool *pool, struct run *run) {
   struct zuphinka_call call;
-  run->next = (struct zuphinka_effects){.end = ZUPHINKA_END_OUT_OF_MEMORY}; /* if it does not get on */
   uint32_t status = zuphinka_begin(&pool->core, &run->start, &call, &run->next);
   if (run->start.kind == ZUPHINKA_KIND_CLOSE) wake(&pool->conditions[CUT]);
   while (status == ZUPHINKA_STATUS_DONE) {

@@ -33,8 +33,7 @@ typedef uint32_t line_printer(struct zuphinka *, uint64_t, char *, size_t, uint6
 
 /* What Java reads of the last reply, by the offsets in io.github.zuphinka.Core. */
 struct details {
-  uint64_t place, number; /* of the call in progress */
-  uint64_t object;        /* the id of the object that the action is for */
+  uint64_t object; /* the id of the object that the action is for */
   uint64_t ticket, until, wake;
   uint64_t entries;   /* that the journal stores */
   uint64_t reclaimed; /* how many objects were reclaimed so far; 0 if none can be */
@@ -161,36 +160,41 @@ static jlong reply(struct pool *pool, const struct zuphinka_effects *effects) {
   return (jlong)((uint64_t)(uintptr_t)effects->object << 24 | flags << 16 | (uint64_t)effects->end << 8 | effects->action);
 }
 
-/* Begins a call. */
-JNIEXPORT jlong JNICALL Java_io_github_zuphinka_Core_begin(JNIEnv *env, jclass class, jlong handle, jlong at, jlong id, jlong token, jint caller,
-                                                           jint kind) {
-  (void)env, (void)class;
+/* The longs in which Java keeps a call in progress. */
+enum { WORDS = sizeof(struct zuphinka_call) / sizeof(jlong) };
+
+/* Begins a call, which is kept in `progress`. */
+JNIEXPORT jlong JNICALL Java_io_github_zuphinka_Core_begin(JNIEnv *env, jclass class, jlong handle, jlongArray progress, jlong at, jlong id,
+                                                           jlong token, jint caller, jint kind) {
+  (void)class;
   struct pool *pool = pool_at(handle);
   struct zuphinka_start start = {.at = (uint64_t)at,
                                  .id = (uint64_t)id,
                                  .object = (void *)(uintptr_t)token,
                                  .caller = (uint32_t)caller,
                                  .kind = (uint32_t)kind};
-  struct zuphinka_call call = {.place = 0};
+  struct zuphinka_call call;
   struct zuphinka_effects effects;
   uint32_t status = zuphinka_begin(&pool->core, &start, &call, &effects);
   if (status != ZUPHINKA_STATUS_DONE) return -(jlong)status;
-  pool->details.place = call.place;
-  pool->details.number = call.number;
+  if (effects.action != ZUPHINKA_ACTION_DONE) (*env)->SetLongArrayRegion(env, progress, 0, WORDS, (const jlong *)call.words);
   return reply(pool, &effects);
 }
 
-/* Goes on with a call in progress after a report. */
-JNIEXPORT jlong JNICALL Java_io_github_zuphinka_Core_advance(JNIEnv *env, jclass class, jlong handle, jlong place, jlong number, jlong at,
-                                                             jlong token, jint caller, jint report) {
-  (void)env, (void)class;
+/* Goes on with a call in progress, which is kept in `progress`, after a report. */
+JNIEXPORT jlong JNICALL Java_io_github_zuphinka_Core_advance(JNIEnv *env, jclass class, jlong handle, jlongArray progress, jlong at, jlong token,
+                                                             jint caller, jint report) {
+  (void)class;
   struct pool *pool = pool_at(handle);
-  struct zuphinka_call call = {.place = (uint64_t)place, .number = (uint64_t)number};
+  struct zuphinka_call call;
+  (*env)->GetLongArrayRegion(env, progress, 0, WORDS, (jlong *)call.words);
   struct zuphinka_event event = {
       .at = (uint64_t)at, .object = (void *)(uintptr_t)token, .caller = (uint32_t)caller, .report = (uint32_t)report};
   struct zuphinka_effects effects;
   uint32_t status = zuphinka_advance(&pool->core, &call, &event, &effects);
-  return status == ZUPHINKA_STATUS_DONE ? reply(pool, &effects) : -(jlong)status;
+  if (status != ZUPHINKA_STATUS_DONE) return -(jlong)status;
+  (*env)->SetLongArrayRegion(env, progress, 0, WORDS, (const jlong *)call.words);
+  return reply(pool, &effects);
 }
 
 /* Lends an idle object at once, and returns its token; or a negative status, and the borrow is to be begun. */

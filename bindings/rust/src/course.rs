@@ -52,6 +52,10 @@ pub(crate) struct Course<M: Manager> {
     pub no_room: NoRoom,
     /// For a task that waits for room in the journal: the number under which its waker is kept.
     pub room_wait: Option<u64>,
+    /// Whether it sleeps as a task.
+    pub sleeps_as_task: bool,
+    /// Whether it was given up while it waited as a task: its waker panicked, or it was not polled for long.
+    pub is_given_up: bool,
     /// When it first waited, by the system's clock.
     pub since: Option<Instant>,
     /// For a thread that is to sleep: how long at most, and for how many threads it waits at most.
@@ -81,6 +85,8 @@ impl<M: Manager> Course<M> {
             first_stored: 0,
             no_room: NoRoom::Full,
             room_wait: None,
+            sleeps_as_task: false,
+            is_given_up: false,
             since: None,
             longest: None,
             threads: 0,
@@ -145,22 +151,23 @@ impl<M: Manager> Course<M> {
     /// Tells the core what became of the last action. Returns the alarm of a call that slept, or of a task that waited for room.
     pub fn tell(&mut self, state: &mut LockedPool<M::Object>, report: Report) -> Option<Alarm> {
         let alarm = match self.call.action() {
-            Action::Sleep => state.sleepers.go_on(self.call.ticket()),
+            Action::Sleep => self.leave_sleepers(state),
             _ => self.leave_room_wait(state),
         };
+        if mem::take(&mut self.is_given_up) {
+            match report {
+                Report::GivenUp => state.core.cancel(&mut self.call),
+                _ => self.start(state),
+            }
+            return alarm;
+        }
         let event = Event {
             report,
             caller: self.caller,
             at: state.tell(self.at),
             token: self.token,
         };
-        if !state.core.advance(event, &mut self.call) {
-            // It was given up: its waker panicked, or its task was not polled for long.
-            match report {
-                Report::GivenUp => state.core.cancel(&mut self.call),
-                _ => self.start(state),
-            }
-        }
+        state.core.advance(event, &mut self.call);
         alarm
     }
 

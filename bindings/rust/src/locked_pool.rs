@@ -2,7 +2,7 @@
 
 use crate::clock::{Aged, Moment};
 use crate::metrics::Measures;
-use crate::proved_core::{CallName, Core};
+use crate::proved_core::{CallCopy, Core};
 use crate::settings::Setup;
 use crate::sleepers::Sleepers;
 use crate::step::StepFault;
@@ -108,7 +108,7 @@ impl<T> LockedPool<T> {
     }
 
     /// Returns the call of a task that was woken long ago, for an object or for room in the journal, and has not been polled since then.
-    pub fn take_unheeded(&mut self) -> Option<CallName> {
+    pub fn take_unheeded(&mut self) -> Option<CallCopy> {
         let for_object = self.sleepers.woken.take_older(LONGEST_WAKE);
         let wakers = &mut self.journal.room_wakers;
         for_object.or_else(|| wakers.woken.take_older(LONGEST_WAKE))

@@ -47,13 +47,13 @@ pub(crate) struct Event {
     pub token: u64,
 }
 
-/// The name of a call in progress.
+/// A copy of a call in progress, by which it is given up for its task.
 #[derive(Clone, Copy, Debug, Default)]
-pub(crate) struct CallName(sys::Call);
+pub(crate) struct CallCopy(sys::Call);
 
 /// A call, and what it does next.
 pub(crate) struct Call {
-    name: CallName,
+    progress: sys::Call,
     effects: sys::Effects,
 }
 
@@ -65,7 +65,7 @@ impl Call {
 
     fn ended(end: u32) -> Call {
         Call {
-            name: CallName::default(),
+            progress: sys::Call::default(),
             effects: sys::Effects {
                 action: sys::ACTION_DONE,
                 end,
@@ -80,8 +80,9 @@ impl Call {
         *self = Call::ended(sys::END_OUT_OF_MEMORY);
     }
 
-    pub fn name(&self) -> CallName {
-        self.name
+    /// Returns a copy of the call, which is to be used only while the call itself does not go on.
+    pub fn copy(&self) -> CallCopy {
+        CallCopy(self.progress)
     }
 
     #[inline]
@@ -175,7 +176,7 @@ impl Core {
         }
     }
 
-    /// Begins a call, and takes its first steps. If there is no memory for it, it has ended.
+    /// Begins a call, and takes its first steps.
     #[inline]
     pub fn begin(&mut self, start: Start, call: &mut Call) {
         let start = sys::Start {
@@ -186,14 +187,12 @@ impl Core {
             kind: start.kind as u32,
         };
         let waited = call.effects.has_ticket;
-        let (name, effects) = (&mut call.name.0, &mut call.effects);
+        let (progress, effects) = (&mut call.progress, &mut call.effects);
         // SAFETY: the handle is this core's, and no two of the four overlap.
-        match unsafe { sys::zuphinka_begin(&mut self.handle, &start, name, effects) } {
-            sys::STATUS_DONE => {}
-            sys::STATUS_OUT_OF_MEMORY => call.lack_memory(),
+        match unsafe { sys::zuphinka_begin(&mut self.handle, &start, progress, effects) } {
+            sys::STATUS_DONE => self.count_ticket(waited, call),
             status => unreachable!("the beginning of a call has status {status}"),
         }
-        self.count_ticket(waited, call);
     }
 
     /// Counts the ticket of a call that waited before, or did not.
@@ -203,7 +202,7 @@ impl Core {
         self.tickets -= u64::from(waited);
     }
 
-    /// Ends a call that is not in progress any more.
+    /// Ends a call that was given up by its copy.
     #[cold]
     pub fn cancel(&mut self, call: &mut Call) {
         let waited = call.effects.has_ticket;
@@ -211,9 +210,9 @@ impl Core {
         self.count_ticket(waited, call);
     }
 
-    /// Goes on with a call after a report of its last action. Returns whether it was in progress.
+    /// Goes on with a call in progress after a report of its last action.
     #[inline]
-    pub fn advance(&mut self, event: Event, call: &mut Call) -> bool {
+    pub fn advance(&mut self, event: Event, call: &mut Call) {
         let event = sys::Event {
             at: event.at,
             object: event.token as usize,
@@ -221,29 +220,27 @@ impl Core {
             report: event.report as u32,
         };
         let waited = call.effects.has_ticket;
-        let (name, effects) = (&call.name.0, &mut call.effects);
+        let (progress, effects) = (&mut call.progress, &mut call.effects);
         // SAFETY: the handle is this core's, and no two of the four overlap.
-        match unsafe { sys::zuphinka_advance(&mut self.handle, name, &event, effects) } {
+        match unsafe { sys::zuphinka_advance(&mut self.handle, progress, &event, effects) } {
             sys::STATUS_DONE => self.count_ticket(waited, call),
-            sys::STATUS_NO_CALL => return false,
             status => unreachable!("a report to a call has status {status}"),
         }
-        true
     }
 
     /// Gives a call up that waits. Returns the ticket of the call to wake.
     #[cold]
-    pub fn give_up(&mut self, name: CallName) -> Option<u64> {
+    pub fn give_up(&mut self, copy: CallCopy) -> Option<u64> {
         let mut call = Call::new();
-        call.name = name;
+        call.progress = copy.0;
         let event = Event {
             report: Report::GivenUp,
             caller: 0,
             at: 0,
             token: 0,
         };
-        let was_there = self.advance(event, &mut call);
-        debug_assert!(!was_there || call.action() == Action::Done(End::Cancelled));
+        self.advance(event, &mut call);
+        debug_assert!(call.action() == Action::Done(End::Cancelled));
         call.wake()
     }
 

@@ -1,7 +1,7 @@
 //! The threads and the tasks that sleep, by the tickets that the core has given their calls.
 
 use crate::panics::unless_it_panics;
-use crate::proved_core::CallName;
+use crate::proved_core::CallCopy;
 use crate::woken::WokenTasks;
 use std::collections::VecDeque;
 use std::mem;
@@ -36,12 +36,12 @@ impl OldestSleeper {
 pub(crate) enum Alarm {
     Thread(Thread),
     /// The waker of a task, and its call.
-    Task(Waker, CallName),
+    Task(Waker, CallCopy),
 }
 
 impl Alarm {
     /// Wakes a sleeper. Fails with the call of a task whose waker panicked.
-    pub fn ring(self) -> Result<(), CallName> {
+    pub fn ring(self) -> Result<(), CallCopy> {
         match self {
             Alarm::Thread(thread) => {
                 thread.unpark();
@@ -187,10 +187,11 @@ impl Sleepers {
         Some(alarm)
     }
 
-    /// A call goes on. Returns its alarm, if it slept.
-    pub fn go_on(&mut self, ticket: u64) -> Option<Alarm> {
-        self.woken.forget(ticket);
-        self.leave(ticket)
+    /// A call goes on. Returns whether it slept or was woken as a task, and its alarm, if it slept.
+    pub fn go_on(&mut self, ticket: u64) -> (bool, Option<Alarm>) {
+        let was_woken = self.woken.forget(ticket);
+        let alarm = self.leave(ticket);
+        (was_woken || alarm.is_some(), alarm)
     }
 
     /// One sleeps no longer. Returns its alarm, if it slept.
@@ -210,7 +211,7 @@ impl Sleepers {
 #[cfg(test)]
 mod tests {
     use super::{Alarm, Sleepers, Wakes};
-    use crate::proved_core::CallName;
+    use crate::proved_core::CallCopy;
     use std::sync::atomic::{AtomicU32, Ordering};
     use std::sync::Arc;
     use std::task::{self, Waker};
@@ -227,7 +228,7 @@ mod tests {
     }
 
     fn alarm(counter: &Arc<Counter>) -> Alarm {
-        Alarm::Task(Waker::from(Arc::clone(counter)), CallName::default())
+        Alarm::Task(Waker::from(Arc::clone(counter)), CallCopy::default())
     }
 
     /// Sleepers with these tickets, who came in this order.
@@ -285,7 +286,8 @@ mod tests {
             assert!(sleepers.wake(ticket).is_some());
             assert!(sleepers.wake(ticket).is_none());
         }
-        assert!(sleepers.go_on(3).is_none());
+        assert!(matches!(sleepers.go_on(3), (true, None)));
+        assert!(matches!(sleepers.go_on(3), (false, None)));
         let woken = [1, 2, 3, 4, 4].map(|ticket| sleepers.woken.forget(ticket));
         assert_eq!(woken, [false, true, false, true, false]);
     }
@@ -316,6 +318,6 @@ mod tests {
             }
         }
         let waker = Waker::from(Arc::new(Broken));
-        assert!(Alarm::Task(waker, CallName::default()).ring().is_err());
+        assert!(Alarm::Task(waker, CallCopy::default()).ring().is_err());
     }
 }

@@ -10,6 +10,7 @@ use crate::room::{NoRoom, Room};
 use crate::shared::{Held, Shared, WaitLimit};
 use crate::sleepers::Alarm;
 use crate::woken::LONGEST_WAKE;
+use std::mem;
 use std::task::Waker;
 use std::thread;
 use std::time::{Duration, Instant};
@@ -65,7 +66,7 @@ impl<M: Manager> Course<M> {
         let ticket = self.call.ticket();
         let is_task = waker.is_some();
         let alarm = match waker.take() {
-            Some(waker) => Alarm::Task(waker, self.call.name()),
+            Some(waker) => Alarm::Task(waker, self.call.copy()),
             None => Alarm::Thread(thread::current()),
         };
         if let Err(alarm) = state.sleepers.sleep(ticket, alarm) {
@@ -73,10 +74,18 @@ impl<M: Manager> Course<M> {
             self.lacks_memory = true;
             return false;
         }
+        self.sleeps_as_task = is_task;
         if !is_task {
             self.threads = state.threads_before(ticket);
         }
         true
+    }
+
+    /// It sleeps no longer. Returns its alarm, if it was not woken.
+    pub fn leave_sleepers(&mut self, state: &mut LockedPool<M::Object>) -> Option<Alarm> {
+        let (was_there, alarm) = state.sleepers.go_on(self.call.ticket());
+        self.is_given_up = mem::take(&mut self.sleeps_as_task) && !was_there;
+        alarm
     }
 
     /// Returns whether its wait is over by the settings.
@@ -113,7 +122,7 @@ impl<M: Manager> Course<M> {
         }
         let alarm = waker
             .take()
-            .map(|waker| Alarm::Task(waker, self.call.name()));
+            .map(|waker| Alarm::Task(waker, self.call.copy()));
         let before = alarm.map(|alarm| state.sleepers.sleep(ticket, alarm));
         drop(state);
         drop_quietly(before);
@@ -196,7 +205,10 @@ impl<M: Manager> Course<M> {
     /// Waits until the journal is cut, or the thread that writes is done. Returns a report if there is no memory for that.
     fn await_room(&mut self, mut state: Held<'_, M>, waker: &mut Option<Waker>) -> Option<Report> {
         let before = self.leave_room_wait(&mut state);
-        let call = self.call.name();
+        if self.is_given_up {
+            return Some(Report::RoomMade); // by which it begins again
+        }
+        let call = self.call.copy();
         let kept = waker
             .take()
             .map(|waker| state.journal.room_wakers.keep(waker, call));
@@ -218,8 +230,9 @@ impl<M: Manager> Course<M> {
     /// A task waits for room no longer. Returns its alarm, if it was not called.
     pub fn leave_room_wait(&mut self, state: &mut LockedPool<M::Object>) -> Option<Alarm> {
         let number = self.room_wait.take()?;
-        let waker = state.journal.room_wakers.take(number)?;
-        Some(Alarm::Task(waker, self.call.name()))
+        let (was_there, waker) = state.journal.room_wakers.go_on(number);
+        self.is_given_up |= !was_there;
+        Some(Alarm::Task(waker?, self.call.copy()))
     }
 }
 

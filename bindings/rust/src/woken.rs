@@ -1,6 +1,6 @@
 //! The tasks that were woken, until their calls go on.
 
-use crate::proved_core::CallName;
+use crate::proved_core::CallCopy;
 use std::collections::VecDeque;
 use std::time::{Duration, Instant};
 
@@ -11,7 +11,7 @@ pub(crate) const LONGEST_WAKE: Duration = Duration::from_secs(1);
 #[derive(Debug)]
 struct Woken {
     number: u64,
-    call: CallName,
+    call: CallCopy,
     at: Instant,
 }
 
@@ -26,7 +26,7 @@ impl WokenTasks {
     }
 
     /// A task is woken now.
-    pub fn push(&mut self, number: u64, call: CallName) {
+    pub fn push(&mut self, number: u64, call: CallCopy) {
         let at = Instant::now();
         self.0.push_back(Woken { number, call, at });
     }
@@ -38,7 +38,7 @@ impl WokenTasks {
     }
 
     /// Returns the call of a task that was woken at least this long ago, and has not gone on. It counts as not woken from now on.
-    pub fn take_older(&mut self, age: Duration) -> Option<CallName> {
+    pub fn take_older(&mut self, age: Duration) -> Option<CallCopy> {
         let is_due = self.0.front()?.at.elapsed() >= age;
         let oldest = is_due.then(|| self.0.pop_front()).flatten();
         oldest.map(|woken| woken.call)
@@ -48,14 +48,14 @@ impl WokenTasks {
 #[cfg(test)]
 mod tests {
     use super::WokenTasks;
-    use crate::proved_core::CallName;
+    use crate::proved_core::CallCopy;
     use std::time::Duration;
 
     #[test]
     fn a_task_is_woken_until_it_goes_on() {
         let mut woken = WokenTasks::default();
         for number in [3, 1, 2] {
-            woken.push(number, CallName::default());
+            woken.push(number, CallCopy::default());
         }
         let forgotten = [1, 1, 4].map(|number| woken.forget(number));
         assert_eq!(forgotten, [true, false, false]);

@@ -4,7 +4,7 @@ use crate::failure::Failure;
 use crate::journal::copy_lines;
 use crate::manager::Manager;
 use crate::outlet::Outlet;
-use crate::proved_core::{CallName, Core};
+use crate::proved_core::{CallCopy, Core};
 use crate::room_waits::wake_all;
 use crate::segments::SinkFailure;
 use crate::settings::Setup;
@@ -64,7 +64,7 @@ impl<M: Manager> Shared<M> {
 
     /// Gives the call of a task up whose waker panicked, unless it has gone on. If it was woken for an object, another one is woken in its place.
     #[cold]
-    fn give_room_wait_up(&self, number: u64, call: CallName) {
+    fn give_room_wait_up(&self, number: u64, call: CallCopy) {
         let mut state = self.lock();
         if state.journal.room_wakers.woken.forget(number) {
             let mut wakes = Wakes::default();

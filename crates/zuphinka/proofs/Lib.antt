@@ -1,5 +1,4 @@
 mod Held
-pub mod Keeping
 pub mod Openings
 mod Pairs
 mod Sent

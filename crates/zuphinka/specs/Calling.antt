@@ -1,37 +1,36 @@
 -- The calls in progress from C: what begins them, what follows a report, and what the host is told.
-use Rattle.std.specs.Prelude.{◌≡◌, ◌≢◌, ℕ, ◌+◌, if◌then◌else◌, max, not, Bool, true, false, List, [], Option, Some, None, is_some, unwrap_or, IsSome, IsSomeAnd, count_by, length}
+use Rattle.std.specs.Prelude.{◌≡◌, ℕ, ◌+◌, ◌-◌, ◌^◌, if◌then◌else◌, max, min, not, Bool, true, false, List, [], Option, Some, None, is_some, unwrap_or, IsSomeAnd, length}
 use Rattle.pool_journal.specs.Base.{closed_from}
 use Rattle.pool_journal.specs.declared.answer.Answer.{Answer}
 use Rattle.pool_journal.specs.declared.answer.Answer.TheVariants as answers
 use Rattle.pool_journal.specs.declared.input.Input.{Input}
 use Rattle.pool_journal.specs.declared.input.Input.TheVariants as inputs
 use Rattle.pool_journal.specs.declared.input.When.TheVariants as times
-use Rattle.pool_core.specs.Pool.{CoreModel}
 use Rattle.pool_core.specs.Reply.{reply_from}
-use Rattle.pool_calls.specs.Operations.{HasCome, IsRight, began_of, step_at}
-use Rattle.pool_calls.specs.Turns.{Turn, asks_room}
+use Rattle.pool_calls.specs.Operations.{HasCome, IsRight, began_of, is_over, step_at}
+use Rattle.pool_calls.specs.Turns.{Turn, asks_room, is_done}
 use Rattle.pool_calls.specs.Waiting.{IsSettled, Signals, most_overtaken}
 use Rattle.pool_calls.specs.declared.operation.Operation.{Operation}
-use Rattle.pool_driver.specs.Driving.{DrivenModel, Begins, ChecksAtOnce, GoesFrom, IsTold, LendsAtOnce, Moves, TakesAtOnce, TakesBackAtOnce, available_in, detaches, fits_report, is_done, is_low_in, told, until_of}
+use Rattle.pool_driver.specs.Driving.{DrivenModel, Begins, ChecksAtOnce, GoesFrom, IsTold, LendsAtOnce, Moves, TakesAtOnce, TakesBackAtOnce, available_in, detaches, fits_report, is_low_in, told, until_of}
 use Rattle.pool_driver.specs.Overtaking.{CountsOvertakes}
 use Rattle.pool_driver.specs.declared.call.Call.{Call}
 use Rattle.pool_driver.specs.declared.effects.Effects.{Effects}
 use Rattle.pool_driver.specs.declared.report.Report.{Report}
 use Rattle.pool_driver.specs.declared.report.Report.TheVariants as reports
 use Rattle.zuphinka.specs.CallCodes.{action_code, action_end, action_number, kind_at, report_of}
-use Rattle.zuphinka.specs.Opening.{OpenModel, call_at}
-use Rattle.zuphinka.specs.Tables.{HasSpare}
+use Rattle.zuphinka.specs.Opening.{OpenModel}
+use Rattle.zuphinka.specs.HostCalls.{Holds, HoldsNone, Keeps}
 use Rattle.zuphinka.specs.Status.{status_code}
 use Rattle.zuphinka.specs.declared.call_effects.CallEffects.{CallEffects}
-use Rattle.zuphinka.specs.declared.call_name.CallName.{CallName}
 use Rattle.zuphinka.specs.declared.event.CallEvent.{CallEvent}
+use Rattle.zuphinka.specs.declared.host_call.HostCall.{HostCall}
 use Rattle.zuphinka.specs.declared.loan.Loan.{Loan}
 use Rattle.zuphinka.specs.declared.pool_state.PoolState.{PoolState}
 use Rattle.zuphinka.specs.declared.starting.CallStart.{CallStart}
 use Rattle.zuphinka.specs.declared.starting.Kind.{Kind}
 use Rattle.zuphinka.specs.declared.starting.Kind.TheVariants as kinds
 use Rattle.zuphinka.specs.declared.status.Status.{Status}
-use Rattle.zuphinka.specs.declared.status.Status.TheVariants.{Done, NotOpen, OutOfMemory, BadRequest, NoCall, Misfit, NoWake, NotAtOnce}
+use Rattle.zuphinka.specs.declared.status.Status.TheVariants.{Done, NotOpen, BadRequest, NoCall, Misfit, NoWake, NotAtOnce}
 
 -- ---- what the host is told
 -- C reads these effects of a call, and the ticket to wake
@@ -58,7 +57,7 @@ Wakes old new (Some ticket) =
 
 -- a call goes on after a report that fits what the host was asked to do, and C reads what it does next. A pool that drops its
 -- journal asks for room only while no entry is stored
-pub record GoesOn (caller at : ℕ) (report : Report) (old new : DrivenModel) (before after : Call) (out : CallEffects) (ends : Bool) : Type 0 where
+pub record GoesOn (caller at : ℕ) (report : Report) (old new : DrivenModel) (before after : Call) (out : CallEffects) : Type 0 where
   pub effects : Effects
   pub between : DrivenModel  -- before a call is woken
   pub wake : Option ℕ
@@ -67,6 +66,7 @@ pub record GoesOn (caller at : ℕ) (report : Report) (old new : DrivenModel) (b
   pub tells : (mid : Operation) × IsTold report old (max at old.last) before mid × GoesFrom (step_at mid) caller (max at old.last) old between (record before { operation = mid; token = (told report before).token }) after × CountsOvertakes caller (max at old.last) old between (record before { operation = mid; token = (told report before).token }) after
   pub last : between.last ≡ max at old.last
   pub action : (turns : List Turn) → HasCome after.operation turns → IsRight after.operation turns effects.action
+  pub over : is_done effects.action ≡ is_over after.operation
   pub ended : is_done effects.action ≡ true → after.ticket ≡ None
   pub token : effects.token ≡ after.token
   pub ticket : effects.ticket ≡ after.ticket
@@ -76,27 +76,8 @@ pub record GoesOn (caller at : ℕ) (report : Report) (old new : DrivenModel) (b
   pub low : effects.is_low ≡ is_low_in between.core
   pub wakes : Wakes between new wake
   pub read : IsReadAs effects after.operation wake out
-  pub over : ends ≡ is_done effects.action
 
 -- ---- begin
--- the object is lent, by what is expected of its return or its invalidation
-abbrev pub ends_loan : Answer → Bool
-ends_loan (answers.Refused cause) = false
-ends_loan answers.Gone = false
-ends_loan _ = true
-
--- a place is set aside for the call: one for each object that is lent, and one for the close
-abbrev pub is_set_aside : CoreModel ℕ → CallStart → Kind → Bool
-is_set_aside c s kinds.Return = ends_loan (reply_from c.settings c.base c.journal s.at (inputs.GiveBack s.id))
-is_set_aside c s kinds.Invalidate = ends_loan (reply_from c.settings c.base c.journal s.at (inputs.Invalidate s.id))
-is_set_aside c s kinds.Detach = ends_loan (reply_from c.settings c.base c.journal s.at (inputs.Invalidate s.id))
-is_set_aside c s kinds.Close = not (closed_from c.base c.journal)
-is_set_aside c s _ = false
-
--- no place is left for the call, or none was set aside for it
-abbrev pub LacksPlace : CallStart → OpenModel → Type 0
-LacksPlace start p = (kind : Kind) → kind_at start.kind ≡ Some kind → HasSpare p.calls → is_set_aside p.driven.core start kind ≡ false
-
 -- it begins with this step, and has this token
 abbrev pub Asks : Call → Input → ℕ → Type 0
 Asks c input token = (step_at c.operation ≡ Some input) × (c.token ≡ token)
@@ -115,57 +96,49 @@ IsKind s last kinds.Reclaim c = step_at c.operation ≡ Some (inputs.Reclaim tim
 IsKind s last kinds.Clear c = step_at c.operation ≡ Some inputs.Clear
 IsKind s last kinds.Close c = step_at c.operation ≡ Some inputs.Close
 
--- the pool is the same but for the memory of its table
-abbrev pub SameButSpare : OpenModel → OpenModel → Type 0
-SameButSpare old new = new ≡ record old { calls = record old.calls { spare = new.calls.spare } }
+-- the number of calls in progress after one began, up to 2^64 - 1
+abbrev pub running_with : Bool → ℕ → ℕ
+running_with is n = if is then min (n + 1) (2 ^ 64 - 1) else n
 
--- the table has what became of a call, exactly if it is not over, and each call with another number as before
-pub record Keeps (old new : OpenModel) (name : CallName) (over : Bool) (call : Call) : Type 0 where
-  pub number : new.number ≡ old.number
-  pub hooks : new.hooks ≡ old.hooks
-  pub stored : call_at new name ≡ (if over then None else Some call)
-  pub others : (other : CallName) → other.number ≢ name.number → call_at new other ≡ call_at old other
+-- the number of calls in progress after one of them went on
+abbrev pub running_after : Bool → ℕ → ℕ
+running_after is n = if is then n else n - 1
 
--- a call of this kind has begun, with the next number
-pub record Began (start : CallStart) (old new : OpenModel) (name : CallName) (out : CallEffects) (kind : Kind) : Type 0 where
+-- a call of this kind has begun
+pub record Began (start : CallStart) (old new : OpenModel) (host : HostCall) (out : CallEffects) (kind : Kind) : Type 0 where
   pub first : Call
   pub begins : Begins old.driven.plan first
   pub is : IsKind start old.driven.last kind first
   pub call : Call
-  pub over : Bool
-  pub goes : GoesOn start.caller start.at reports.GoOn old.driven new.driven first call out over
-  pub pool : name.pool ≡ old.number
-  pub next : name.number ≡ old.calls.begun
-  pub begun : new.calls.begun ≡ old.calls.begun + 1
-  pub free : call_at old name ≡ None
-  pub keeps : Keeps old new name over call
+  pub goes : GoesOn start.caller start.at reports.GoOn old.driven new.driven first call out
+  pub keeps : Keeps (is_over call.operation) old.number host call
+  pub rest : new ≡ record old { driven = new.driven; running = running_with (not (is_over call.operation)) old.running }
 
 -- the result of beginning a call of an open pool
-abbrev pub BeginsTo : CallStart → OpenModel → OpenModel → CallName → CallName → CallEffects → CallEffects → Status → Type 0
-BeginsTo start old new name name' out out' Done = IsSomeAnd (kind_at start.kind) (Began start old new name' out')
-BeginsTo start old new name name' out out' BadRequest = (kind_at start.kind ≡ None) × (new ≡ old) × (name' ≡ name) × (out' ≡ out)
-BeginsTo start old new name name' out out' OutOfMemory = LacksPlace start old × SameButSpare old new × (name' ≡ name) × (out' ≡ out)
-BeginsTo start old new name name' out out' _ = ⊥
+abbrev pub BeginsTo : CallStart → OpenModel → OpenModel → HostCall → HostCall → CallEffects → CallEffects → Status → Type 0
+BeginsTo start old new host host' out out' Done = IsSomeAnd (kind_at start.kind) (Began start old new host' out')
+BeginsTo start old new host host' out out' BadRequest = (kind_at start.kind ≡ None) × (new ≡ old) × (host' ≡ host) × (out' ≡ out)
+BeginsTo start old new host host' out out' _ = ⊥
 
 -- ---- advance
 -- a call in progress went on after a report
-pub record Advanced (event : CallEvent) (name : CallName) (old new : OpenModel) (out : CallEffects) (before : Call) : Type 0 where
+pub record Advanced (event : CallEvent) (old new : OpenModel) (host : HostCall) (out : CallEffects) (before : Call) : Type 0 where
   pub report : Report
   pub reported : report_of event ≡ Some report
   pub call : Call
-  pub over : Bool
-  pub goes : GoesOn event.caller event.at report old.driven new.driven before call out over
-  pub begun : new.calls.begun ≡ old.calls.begun
-  pub keeps : Keeps old new name over call
+  pub goes : GoesOn event.caller event.at report old.driven new.driven before call out
+  pub keeps : Keeps (is_over call.operation) old.number host call
+  pub rest : new ≡ record old { driven = new.driven; running = running_after (not (is_over call.operation)) old.running }
 
 -- the result of a report to an open pool
-abbrev pub AdvancesTo : CallEvent → CallName → OpenModel → OpenModel → CallEffects → CallEffects → Status → Type 0
-AdvancesTo event name old new out out' Done = IsSomeAnd (call_at old name) (Advanced event name old new out')
-AdvancesTo event name old new out out' NoCall = (call_at old name ≡ None) × (new ≡ old) × (out' ≡ out)
-AdvancesTo event name old new out out' BadRequest = IsSome (call_at old name) × (report_of event ≡ None) × (new ≡ old) × (out' ≡ out)
-AdvancesTo event name old new out out' Misfit =
-    IsSomeAnd (call_at old name) (λ c. IsSomeAnd (report_of event) (λ r. fits_report r c.operation ≡ false)) × (new ≡ old) × (out' ≡ out)
-AdvancesTo event name old new out out' _ = ⊥
+abbrev pub AdvancesTo : CallEvent → OpenModel → OpenModel → HostCall → HostCall → CallEffects → CallEffects → Status → Type 0
+AdvancesTo event old new host host' out out' Done = (c : Call) × Holds old.number host c × Advanced event old new host' out' c
+AdvancesTo event old new host host' out out' NoCall = HoldsNone old.number host × (new ≡ old) × (host' ≡ host) × (out' ≡ out)
+AdvancesTo event old new host host' out out' BadRequest =
+    (c : Call) × Holds old.number host c × (report_of event ≡ None) × (new ≡ old) × (host' ≡ host) × (out' ≡ out)
+AdvancesTo event old new host host' out out' Misfit =
+    (c : Call) × Holds old.number host c × IsSomeAnd (report_of event) (λ r. fits_report r c.operation ≡ false) × (new ≡ old) × (host' ≡ host) × (out' ≡ out)
+AdvancesTo event old new host host' out out' _ = ⊥
 
 -- ---- wakes and the state
 -- the result of asking an open pool for the next call to wake
@@ -177,7 +150,7 @@ WakesTo old new ticket ticket' _ = ⊥
 -- the numbers of calls, and whether the pool is closed
 pub record ReportsState (p : OpenModel) (reported : PoolState) : Type 0 where
   pub waiting : reported.waiting ≡ length p.driven.queue.waiting
-  pub running : reported.running ≡ count_by is_some p.calls.slots
+  pub running : reported.running ≡ p.running
   pub closed : reported.is_closed ≡ closed_from p.driven.core.base p.driven.core.journal
 
 -- each waiting call is overtaken at most so often from now on, or as often as the oldest one was
@@ -185,25 +158,31 @@ pub record LimitsOvertakes (most : ℕ) (old new : OpenModel) (bound : ℕ) : Ty
   pub is : bound ≡ max most (most_overtaken old.driven.queue.waiting)
   pub rest : new ≡ record old { driven = record old.driven { queue = record old.driven.queue { most = bound } } }
 
+-- the object is lent, by what is expected of its return
+abbrev pub ends_loan : Answer → Bool
+ends_loan (answers.Refused cause) = false
+ends_loan answers.Gone = false
+ends_loan _ = true
+
 -- the object with this id is lent
 abbrev pub is_lent_in : OpenModel → ℕ → Bool
 is_lent_in p id = ends_loan (reply_from p.driven.core.settings p.driven.core.base p.driven.core.journal 0 (inputs.GiveBack id))
 
 -- ---- calls that are over at once
--- the result of a borrow that is not begun as a call. A place is set aside for the return of what is lent
+-- the result of a borrow that is not begun as a call.
 abbrev pub LendsTo : ℕ → ℕ → OpenModel → OpenModel → Loan → Loan → Status → Type 0
 LendsTo caller at old new loan loan' Done =
     LendsAtOnce caller (max at old.driven.last) loan'.id loan'.object old.driven new.driven
-    × (new ≡ record old { driven = new.driven; calls = record old.calls { spare = new.calls.spare } })
-LendsTo caller at old new loan loan' NotAtOnce = SameButSpare old new × (loan' ≡ loan)
+    × (new ≡ record old { driven = new.driven })
+LendsTo caller at old new loan loan' NotAtOnce = (new ≡ old) × (loan' ≡ loan)
 LendsTo caller at old new loan loan' _ = ⊥
 
--- the result of the first step of a borrow that is not begun as a call. A place is set aside for the return of what is taken
+-- the result of the first step of a borrow that is not begun as a call.
 abbrev pub TakesTo : ℕ → ℕ → OpenModel → OpenModel → Loan → Loan → Status → Type 0
 TakesTo caller at old new loan loan' Done =
     TakesAtOnce caller (max at old.driven.last) loan'.id loan'.object old.driven new.driven
-    × (new ≡ record old { driven = new.driven; calls = record old.calls { spare = new.calls.spare } })
-TakesTo caller at old new loan loan' NotAtOnce = SameButSpare old new × (loan' ≡ loan)
+    × (new ≡ record old { driven = new.driven })
+TakesTo caller at old new loan loan' NotAtOnce = (new ≡ old) × (loan' ≡ loan)
 TakesTo caller at old new loan loan' _ = ⊥
 
 -- the result of a return that is not begun as a call
@@ -241,14 +220,14 @@ ChecksIn caller at id None new s = (s ≡ NotOpen) × (new ≡ None)
 ChecksIn caller at id (Some old) new s = IsSomeAnd new (λ p. ChecksTo caller at id old p s)
 
 -- the result of beginning a call of the pool in a handle
-abbrev pub BeginsIn : CallStart → Option OpenModel → Option OpenModel → CallName → CallName → CallEffects → CallEffects → Status → Type 0
-BeginsIn start None new name name' out out' s = (s ≡ NotOpen) × (new ≡ None) × (name' ≡ name) × (out' ≡ out)
-BeginsIn start (Some old) new name name' out out' s = IsSomeAnd new (λ p. BeginsTo start old p name name' out out' s)
+abbrev pub BeginsIn : CallStart → Option OpenModel → Option OpenModel → HostCall → HostCall → CallEffects → CallEffects → Status → Type 0
+BeginsIn start None new host host' out out' s = (s ≡ NotOpen) × (new ≡ None) × (host' ≡ host) × (out' ≡ out)
+BeginsIn start (Some old) new host host' out out' s = IsSomeAnd new (λ p. BeginsTo start old p host host' out out' s)
 
 -- the result of a report to the pool in a handle
-abbrev pub AdvancesIn : CallEvent → CallName → Option OpenModel → Option OpenModel → CallEffects → CallEffects → Status → Type 0
-AdvancesIn event name None new out out' s = (s ≡ NotOpen) × (new ≡ None) × (out' ≡ out)
-AdvancesIn event name (Some old) new out out' s = IsSomeAnd new (λ p. AdvancesTo event name old p out out' s)
+abbrev pub AdvancesIn : CallEvent → Option OpenModel → Option OpenModel → HostCall → HostCall → CallEffects → CallEffects → Status → Type 0
+AdvancesIn event None new host host' out out' s = (s ≡ NotOpen) × (new ≡ None) × (host' ≡ host) × (out' ≡ out)
+AdvancesIn event (Some old) new host host' out out' s = IsSomeAnd new (λ p. AdvancesTo event old p host host' out out' s)
 
 -- the result of asking the pool in a handle for the next call to wake
 abbrev pub WakesIn : Option OpenModel → Option OpenModel → ℕ → ℕ → Status → Type 0

@@ -19,7 +19,6 @@ use Rattle.pool_driver.specs.Driving as driver
 use Rattle.zuphinka.specs.Codes.{input_of, reply_of}
 use Rattle.zuphinka.specs.Lines.{TextTo, entry_line, base_line}
 use Rattle.zuphinka.specs.Opening.{OpenModel, options_of}
-use Rattle.zuphinka.specs.Tables.{IsEmpty}
 use Rattle.zuphinka.specs.declared.pool_options.PoolOptions.{PoolOptions}
 use Rattle.zuphinka.specs.Status.{status_code, fault_status}
 use Rattle.zuphinka.specs.declared.status.Status.{Status}
@@ -65,7 +64,7 @@ pub record OpenedWith (text : List ℕ) (options : PoolOptions) (pool : OpenMode
   pub driven : driver.Opened settings (options_of options) pool.driven
   pub number : pool.number ≡ options.pool
   pub hooks : pool.hooks ≡ (options_of options).hooks
-  pub calls : IsEmpty pool.calls
+  pub running : pool.running ≡ 0
 
 -- the result of opening an empty handle with options
 abbrev pub OpensWithTo : List ℕ → PoolOptions → Option OpenModel → Status → Type 0

@@ -10,7 +10,7 @@ use Rattle.std.specs.contracts.impls.GlobalAllocator.TheImpl.{ghosts}
 use Rattle.zuphinka.specs.Opening.{OpenModel}
 use Rattle.zuphinka.specs.contracts.open_pool.OpenPool as pools
 
--- a pool with its calls in progress, as a type
+-- a pool for C, as a type
 abbrev pub Pools : RattleType
 Pools = pools.the_row
 

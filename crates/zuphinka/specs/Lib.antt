@@ -4,9 +4,9 @@ pub mod Calls
 pub mod Codes
 pub mod Counting
 pub mod Holding
+pub mod HostCalls
 pub mod Lines
 pub mod Opening
 pub mod Reconfiguring
 pub mod Setting
 pub mod Status
-pub mod Tables

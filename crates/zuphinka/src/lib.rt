@@ -12,9 +12,9 @@ ghost use Rattle.zuphinka.specs.Status.{status_code};
 ghost use Rattle.zuphinka.specs.declared.status.Status.TheVariants.{Done};
 
 mod call_effects;
-mod call_name;
 mod event;
 mod handle;
+mod host_call;
 mod lines;
 mod loan;
 mod open_pool;
@@ -27,14 +27,12 @@ mod request;
 mod setup;
 mod starting;
 mod status;
-mod stored;
-mod table;
 mod tally;
 
 use call_effects::CallEffects;
-use call_name::CallName;
 use event::CallEvent;
 use handle::Handle;
+use host_call::HostCall;
 use loan::Loan;
 use pool_options::PoolOptions;
 use pool_settings::Settings;
@@ -236,14 +234,14 @@ pub extern "C" fn zuphinka_open_with(
     pool::open_in(alloc, pool, settings, options).code()
 }
 
-/// Begins a call, takes its first steps, and stores in `effects` what the host does next. The call is in progress under
-/// the name that is stored in `call`, unless it is over.
+/// Begins a call, takes its first steps, and stores in `effects` what the host does next. The host keeps the call in
+/// `call`, which has none if the call is over.
 #[unsafe(no_mangle)]
 pub extern "C" fn zuphinka_begin(
     alloc: Global,
     pool: &mut Handle,
     start: &CallStart,
-    call: &mut CallName,
+    call: &mut HostCall,
     effects: &mut CallEffects,
 ) -> u32
     ensures { Came result (BeginsIn start.now pool.old.held pool.new.held call.old call.new
@@ -262,12 +260,12 @@ pub extern "C" fn zuphinka_begin(
 pub extern "C" fn zuphinka_advance(
     alloc: Global,
     pool: &mut Handle,
-    call: &CallName,
+    call: &mut HostCall,
     event: &CallEvent,
     effects: &mut CallEffects,
 ) -> u32
-    ensures { Came result (AdvancesIn event.now call.now pool.old.held pool.new.held effects.old
-        effects.new) }
+    ensures { Came result (AdvancesIn event.now pool.old.held pool.new.held call.old call.new
+        effects.old effects.new) }
 {
     let Some(mut held) = pool.take(alloc) else {
         return Status::NotOpen.code();

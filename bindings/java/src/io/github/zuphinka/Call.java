@@ -17,9 +17,8 @@ final class Call<T> {
     /** How its object is destroyed. */
     DestroyMode mode = DestroyMode.NORMAL;
 
-    /** The names of the call in the core. */
-    long place;
-    long number;
+    /** The call as the core keeps it. */
+    final long[] progress = new long[Core.WORDS];
     /** What it does next, and how it ended. */
     int action;
     int end;

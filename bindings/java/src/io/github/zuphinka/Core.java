@@ -82,15 +82,16 @@ final class Core {
     static final int PASSIVATES = 4;
     static final int RECLAIMS = 8;
 
-    /** Where the {@link #details} are: the place and the number of a call, the object's id, and so on. */
-    static final int PLACE = 0;
-    static final int NUMBER = 8;
-    static final int OBJECT = 16;
-    static final int TICKET = 24;
-    static final int UNTIL = 32;
-    static final int WAKE = 40;
-    static final int ENTRIES = 48;
-    static final int RECLAIMED = 56;
+    /** The number of longs that keep a call in progress. Only the core reads and writes them. */
+    static final int WORDS = 13;
+
+    /** Where the {@link #details} are: the object's id, and so on. */
+    static final int OBJECT = 0;
+    static final int TICKET = 8;
+    static final int UNTIL = 16;
+    static final int WAKE = 24;
+    static final int ENTRIES = 32;
+    static final int RECLAIMED = 40;
 
     static {
         NativeLibrary.load();
@@ -138,11 +139,11 @@ final class Core {
     /** Returns how many bytes of its stack the thread has left, those included that the virtual machine keeps for itself. The caller needs no lock. */
     static native long stackLeft();
 
-    /** Begins a call. */
-    static native long begin(long core, long at, long id, long token, int caller, int kind);
+    /** Begins a call, which is kept in the longs. */
+    static native long begin(long core, long[] progress, long at, long id, long token, int caller, int kind);
 
-    /** Goes on with a call after a report. */
-    static native long advance(long core, long place, long number, long at, long token, int caller, int report);
+    /** Goes on with a call, which is kept in the longs, after a report. */
+    static native long advance(long core, long[] progress, long at, long token, int caller, int report);
 
     /** Lends an idle object at once, and returns its token; or a negative status, and the borrow is to be begun. */
     static native long lend(long core, long at, int caller);

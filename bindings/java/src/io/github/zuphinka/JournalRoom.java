@@ -63,13 +63,10 @@ final class JournalRoom {
 
     /** Lends an object as a borrow does that makes one, and returns whether there was room. */
     private static boolean lendsOne(long core) {
-        ByteBuffer details = detailsOf(core);
-        long begun = Core.begin(core, 0, 0, 0, 0, Core.KIND_BORROW);
-        if (hasDone(begun) && Core.action(begun) == Core.ACTION_MAKE) {
-            long number = details.getLong(Core.NUMBER);
-            return hasDone(Core.advance(core, details.getLong(Core.PLACE), number, 0, 0, 0, Core.REPORT_MADE));
-        }
-        return false;
+        long[] progress = new long[Core.WORDS];
+        long begun = Core.begin(core, progress, 0, 0, 0, 0, Core.KIND_BORROW);
+        boolean makes = hasDone(begun) && Core.action(begun) == Core.ACTION_MAKE;
+        return makes && hasDone(Core.advance(core, progress, 0, 0, 0, Core.REPORT_MADE));
     }
 
     /** Returns whether a reply is none of a lack of memory. */

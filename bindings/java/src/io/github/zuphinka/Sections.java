@@ -378,15 +378,7 @@ final class Sections<T> {
         call.testsOnCreate = settings.config.getTestOnCreate();
         call.testsLeft = call.kind == Core.KIND_EVICT && settings.hasLifetime() ? settings.testsOf(journal.latest().idle()) : Long.MAX_VALUE;
         long id = member == null ? call.moreMillis : member.id;
-        long reply = Core.begin(core, timeOf(call.first), id, member == null ? 0 : member.slot, call.caller, call.kind);
-        if (reply == Core.STATUS_OUT_OF_MEMORY) {
-            call.action = Core.ACTION_DONE;
-            call.end = Core.END_OUT_OF_MEMORY;
-            noteEnd(call, call.first);
-            return;
-        }
-        call.place = details.getLong(Core.PLACE);
-        call.number = details.getLong(Core.NUMBER);
+        long reply = Core.begin(core, call.progress, timeOf(call.first), id, member == null ? 0 : member.slot, call.caller, call.kind);
         takeUp(call, reply, call.first);
     }
 
@@ -488,7 +480,7 @@ final class Sections<T> {
 
     private long advanced(Call<T> call, int report, long now) {
         long token = call.member == null ? 0 : call.member.slot;
-        return Core.advance(core, call.place, call.number, timeOf(now), token, call.caller, report);
+        return Core.advance(core, call.progress, timeOf(now), token, call.caller, report);
     }
 
     /** Notes what a report changes. */

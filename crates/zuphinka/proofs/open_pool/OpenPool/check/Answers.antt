@@ -9,10 +9,10 @@ use Rattle.zuphinka.proofs.open_pool.OpenPool.check.Goals.{then-check_at_once, e
 pub returns : goal.returns
 returns c =
     let old = c.self.inside in
-    let new : OpenModel = record { driven = c.check_at_once.new.self; calls = old.calls; number = old.number; hooks = old.hooks } in
+    let new : OpenModel = record { driven = c.check_at_once.new.self; running = old.running; number = old.number; hooks = old.hooks } in
     let P : Status → Type 0 = λ s. ChecksTo c.args.caller c.args.at c.args.id c.args.self.now new s in
     let Q : Status → OpenModel → Type 0 = λ s p. ChecksTo c.args.caller c.args.at c.args.id p new s in
     elim c.if-check_at_once.branch [
       | then-check_at_once w ↦ subst P (sym w.result-is) (subst (Q Done) c.self.view_is (c.check_at_once.ensures.checked w.if-check_at_once.true, refl))
-      | else-check_at_once w ↦ subst P (sym w.result-is) (subst (Q NotAtOnce) c.self.view_is (ap (λ d. record { driven = d; calls = old.calls; number = old.number; hooks = old.hooks }) (c.check_at_once.ensures.unchanged w.if-check_at_once.false)))
+      | else-check_at_once w ↦ subst P (sym w.result-is) (subst (Q NotAtOnce) c.self.view_is (ap (λ d. record { driven = d; running = old.running; number = old.number; hooks = old.hooks }) (c.check_at_once.ensures.unchanged w.if-check_at_once.false)))
     ]
