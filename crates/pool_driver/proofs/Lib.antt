@@ -1,4 +1,3 @@
-pub mod Following
 pub mod Moving
 pub mod Overtaking
 pub mod Queueing

@@ -26,22 +26,7 @@ impl DrivenPool {
 
     // Whether the journal is to be cut or dropped, which calls that take longer see to.
     fn has_long_journal(&self) -> bool {
-        self.is_low() || (self.drops && self.has_many_entries())
-    }
-
-    // Whether the queue of idle objects takes one more.
-    fn has_idle_room(&self) -> bool
-        ensures { result ≡ has_room self.now.core.settings
-            (closed_from self.now.core.base self.now.core.journal)
-            (records_from self.now.core.base self.now.core.journal) }
-    {
-        if self.is_closed() {
-            return false;
-        }
-        match u64::try_from(self.settings.max_idle) {
-            Ok(most) => self.core.counts().idle < most,
-            Err(_) => true,
-        }
+        self.is_low() || self.is_to_forget()
     }
 
     // The object that a borrow takes that begins now, at this time, and comes before those that wait; and the number of

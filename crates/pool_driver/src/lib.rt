@@ -12,6 +12,7 @@ mod options;
 mod pool;
 mod report;
 mod stepping;
+mod usual;
 mod waiting;
 mod words;
 

@@ -284,8 +284,8 @@ impl DrivenPool {
         }
     }
 
-    // A borrow found something, and waits no longer. It overtook those that wait if it is a newcomer.
-    fn note_found(&mut self, call: &mut Call, available: u64)
+    /// A borrow found something, and waits no longer. It overtook those that wait if it is a newcomer.
+    pub(crate) fn note_found(&mut self, call: &mut Call, available: u64)
         requires { call.old.ticket ≡ None → call.old.was_served ≡ false
             → may_lend available self.old.queue ≡ true }
         ensures accepts { Accepts reports.GoOn self.old self.new call.old call.new }
@@ -376,8 +376,9 @@ impl DrivenPool {
         self.waiters.limit_overtakes(max_overtakes)
     }
 
-    // Whether a borrow may ask: it waits, it found something before, or it may come before those that wait.
-    fn may_ask(&mut self, call: &Call, available: u64) -> bool
+    /// Returns whether a borrow may ask: it waits, it found something before, or it may come before those that wait.
+    #[inline(always)]
+    pub(crate) fn may_ask(&mut self, call: &Call, available: u64) -> bool
         ensures value { result ≡ (is_some call.now.ticket || call.now.was_served
             || may_come_in available self.old) }
         ensures kept { self.new ≡ self.old }
@@ -425,8 +426,6 @@ impl DrivenPool {
         ensures moves { TakesFirst (inputs.Borrow began) (is_some result) caller at self.old self.new
             call.old call.new }
         ensures overtakes { CountsOvertakes caller at self.old self.new call.old call.new }
-        ensures last { IfSome result (λ a. EndsWith (entry_of caller at (inputs.Borrow began) a)
-            self.new.core.journal) }
         ensures room { LacksRoomOnlyEmpty self.old.drops self.new.core call.new.operation }
         ensures longer { call.new.longer ≡ call.old.longer }
     {
@@ -435,10 +434,9 @@ impl DrivenPool {
         Some(answer)
     }
 
-    /// A borrow asks for an object, or waits behind those that come first. It lends an object that it took at once if the
-    /// host need not be asked. Returns whether it took a step.
+    // A borrow asks for an object, or waits behind those that come first. Returns whether it took a step.
     #[inline(never)]
-    pub(crate) fn ask(&mut self, call: &mut Call, caller: u32, at: u64, began: u64) -> bool
+    fn ask_or_wait(&mut self, call: &mut Call, caller: u32, at: u64, began: u64) -> bool
         requires asked { step_at call.old.operation ≡ Some (inputs.Borrow began) }
         requires room { lacks_room call.old.operation ≡ false }
         ensures moves { TakesFirst (inputs.Borrow began) result caller at self.old self.new call.old
@@ -460,13 +458,24 @@ impl DrivenPool {
             self.queue_up(call);
             return false;
         }
-        match self.look(call, caller, at, began, available) {
-            Some(Answer::Take(id)) => {
-                self.lend(call, caller, at, id);
-                true
-            }
-            Some(_) => true,
-            None => false,
+        self.look(call, caller, at, began, available).is_some()
+    }
+
+    /// A borrow asks for an object, or waits behind those that come first. Where an idle one is there for it, it takes that, and
+    /// lends it if the host need not be asked. Returns whether it took a step.
+    #[inline(always)]
+    pub(crate) fn ask(&mut self, call: &mut Call, caller: u32, at: u64, began: u64) -> bool
+        requires asked { step_at call.old.operation ≡ Some (inputs.Borrow began) }
+        requires room { lacks_room call.old.operation ≡ false }
+        ensures moves { TakesFirst (inputs.Borrow began) result caller at self.old self.new call.old
+            call.new }
+        ensures overtakes { CountsOvertakes caller at self.old self.new call.old call.new }
+        ensures room { LacksRoomOnlyEmpty self.old.drops self.new.core call.new.operation }
+        ensures longer { call.new.longer ≡ call.old.longer }
+    {
+        if self.borrow_idle(call, caller, at, began) {
+            return true;
         }
+        self.ask_or_wait(call, caller, at, began)
     }
 }

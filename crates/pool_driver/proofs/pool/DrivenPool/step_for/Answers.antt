@@ -5,7 +5,7 @@ use Rattle.pool_driver.specs.Driving.{Takes}
 use Rattle.pool_driver.proofs.Moving.{takes_none, takes_step}
 use Rattle.pool_driver.proofs.Overtaking.{asking_waits, counts_rest, passes_other, rests_kept}
 use Rattle.pool_driver.proofs.Queueing.{queues_same}
-use Rattle.pool_driver.proofs.Running.{forgets_settings, takes_last}
+use Rattle.pool_driver.proofs.Running.{forgets_settings}
 use Rattle.pool_driver.specs.Queueing.{Queues}
 use Rattle.pool_driver.proofs.pool.DrivenPool.step_for.Goals as goal
 
@@ -22,10 +22,6 @@ returns-in-Err-clause-moves c =
     takes_none c.args.input c.args.caller c.args.at c.args.self.now c.take.new.self c.args.call.now c.tell_failure.new.call c.in-Err.ensures.failed c.tell_failure.ensures.token c.tell_failure.ensures.comes
     (record { settings = forgets_settings c.args.self.now.drops c.args.self.now.core c.take.new.self.core c.in-Err.ensures.failed; plan = ap (λ d. d.plan) rest; drops = ap (λ d. d.drops) rest })
     (subst Q (sym c.tell_failure.ensures.ticket) (queues_same c.args.call.now.ticket c.args.self.now.queue c.take.new.self.queue (ap (λ d. d.queue.most) rest) (ap (λ d. d.queue.waiting) rest)))
-
-pub returns-in-Ok-clause-last : goal.returns-in-Ok-clause-last
-returns-in-Ok-clause-last c =
-    takes_last c.args.caller c.args.at c.args.input _ c.args.self.now.drops c.args.self.now.core c.take.new.self.core c.in-Ok.answer c.in-Ok.out c.in-Ok.ensures.taken
 
 pub returns-in-Ok-clause-other : goal.returns-in-Ok-clause-other
 returns-in-Ok-clause-other c =

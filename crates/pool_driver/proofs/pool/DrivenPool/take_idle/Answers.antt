@@ -1,0 +1,43 @@
+use Rattle.std.proofs.Common.{◌≡◌, true, None, refl, sym, ap, subst}
+use Rattle.std.specs.Option.{is_some}
+use Rattle.pool_journal.specs.declared.answer.Answer.TheVariants as answers
+use Rattle.pool_journal.specs.declared.input.Input.{Input}
+use Rattle.pool_journal.specs.declared.input.Input.TheVariants as inputs
+use Rattle.pool_calls.specs.Operations.{is_waiting}
+use Rattle.pool_driver.specs.Driving.{DrivenModel, IsAvailable, TakesFirst, may_come_in}
+use Rattle.pool_driver.specs.Overtaking.{CountsOvertakes, is_newcomer}
+use Rattle.pool_driver.proofs.Moving.{takes_step, takes_then}
+use Rattle.pool_driver.proofs.Overtaking.{draws_none, passes_asked}
+use Rattle.pool_driver.proofs.Running.{takes_uncut}
+use Rattle.pool_driver.proofs.pool.DrivenPool.take_idle.Goals as goal
+
+pub returns-clause-moves : goal.returns-clause-moves
+returns-clause-moves c is =
+    let input : Input = inputs.Borrow c.args.began in
+    let inside = c.self.inside in
+    let here : DrivenModel = record { core = inside.core; queue = inside.waiters; plan = inside.plan; drops = inside.drops; holds_back = inside.holds_back; last = inside.last } in
+    let mid : DrivenModel = record here { core = c.step_due.new.self } in
+    let call = c.args.call.now in
+    let told = c.tell_answer.ensures in
+    let last = c.note_found.new in
+    let taken = takes_uncut c.args.caller c.args.at input None here.drops here.core mid.core (answers.Take c.args.id) c.in-Ok.out c.in-Ok.ensures.answered in
+    let first = takes_step input c.args.caller c.args.at (answers.Take c.args.id) c.in-Ok.out here mid call c.tell_answer.new.call c.requires.asked taken told.token (told.comes (ap (λ s. is_some s) c.requires.asked)) refl refl refl told.ticket in
+    let P : DrivenModel → Type 0 = λ d. TakesFirst input true c.args.caller c.args.at d last.self call last.call in
+    subst P c.self.view_is (takes_then input c.args.caller c.args.at true here mid last.self call c.tell_answer.new.call last.call first c.note_found.ensures.accepts)
+
+pub returns-clause-overtakes : goal.returns-clause-overtakes
+returns-clause-overtakes c is =
+    let input : Input = inputs.Borrow c.args.began in
+    let inside = c.self.inside in
+    let here : DrivenModel = record { core = inside.core; queue = inside.waiters; plan = inside.plan; drops = inside.drops; holds_back = inside.holds_back; last = inside.last } in
+    let mid : DrivenModel = record here { core = c.step_due.new.self } in
+    let call = c.args.call.now in
+    let told = c.tell_answer.ensures in
+    let last = c.note_found.new in
+    let note = c.note_found.ensures in
+    let n = c.args.available in
+    let taken = takes_uncut c.args.caller c.args.at input None here.drops here.core mid.core (answers.Take c.args.id) c.in-Ok.out c.in-Ok.ensures.answered in
+    let there = subst (λ (d : DrivenModel). IsAvailable d n) (sym c.self.view_is) c.requires.available in
+    let may = λ (newcomer : is_newcomer call ≡ true). subst (λ (d : DrivenModel). may_come_in n d ≡ true) (sym c.self.view_is) (c.requires.may newcomer) in
+    let P : DrivenModel → Type 0 = λ d. CountsOvertakes c.args.caller c.args.at d last.self call last.call in
+    subst P c.self.view_is (passes_asked c.args.caller c.args.at c.args.began n (answers.Take c.args.id) c.in-Ok.out here mid last.self call c.tell_answer.new.call last.call c.requires.asked there may taken refl refl told.ticket told.turn note.accepts.core note.accepts.rest.drops note.served (λ has none. draws_none None last.call.ticket (is_waiting last.call.operation ≡ true) note.ticket has refl) note.others)

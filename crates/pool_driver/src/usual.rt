@@ -1,0 +1,238 @@
+//! The usual course of a borrow and of a return: an idle object is taken, and a lent one comes back. Where the host need
+//! not be asked, both steps are taken at once.
+ghost use Rattle.std.specs.Prelude.{◌≡◌, true, false, Some, IfNone, IfSome};
+ghost use Rattle.pool_calls.specs.Operations.{lacks_room, step_at};
+ghost use Rattle.pool_core.specs.Reply.{has_room, reply_from};
+ghost use Rattle.pool_journal.specs.Base.{closed_from, records_from};
+ghost use Rattle.pool_journal.specs.declared.answer.Answer.TheVariants as answers;
+ghost use Rattle.pool_journal.specs.declared.input.Input.TheVariants as inputs;
+ghost use Rattle.pool_journal.specs.declared.input.Outcome.TheVariants as outcomes;
+ghost use Rattle.pool_driver.specs.Driving.{IsAvailable, TakesFirst, may_come_in};
+ghost use Rattle.pool_driver.specs.Overtaking.{CountsOvertakes, is_newcomer};
+
+use crate::call::Call;
+use crate::pool::DrivenPool;
+use crate::stepping::tell_answer;
+use pool_calls::Action;
+use pool_journal::{Answer, Input, Outcome};
+
+// Whether a borrow reports this object as good.
+#[inline(always)]
+fn is_ready(call: &Call, taken: u64) -> bool
+    ensures { result ≡ true
+        → step_at call.now.operation ≡ Some (inputs.Ready taken outcomes.Good) }
+{
+    match call.operation.action() {
+        Action::Step(
+            Input::Ready {
+                id,
+                outcome: Outcome::Good,
+            },
+        ) => id == taken,
+        _ => false,
+    }
+}
+
+// Whether a return reports this object as good.
+#[inline(always)]
+fn is_back(call: &Call, checked: u64) -> bool
+    ensures { result ≡ true
+        → step_at call.now.operation ≡ Some (inputs.Park checked outcomes.Good) }
+{
+    match call.operation.action() {
+        Action::Step(
+            Input::Park {
+                id,
+                outcome: Outcome::Good,
+            },
+        ) => id == checked,
+        _ => false,
+    }
+}
+
+impl DrivenPool {
+    /// Returns whether the queue of idle objects takes one more.
+    #[inline(always)]
+    pub(crate) fn has_idle_room(&self) -> bool
+        ensures { result ≡ has_room self.now.core.settings
+            (closed_from self.now.core.base self.now.core.journal)
+            (records_from self.now.core.base self.now.core.journal) }
+    {
+        if self.is_closed() {
+            return false;
+        }
+        match u64::try_from(self.settings.max_idle) {
+            Ok(most) => self.core.counts().idle < most,
+            Err(_) => true,
+        }
+    }
+
+    // Lends an idle object by both steps of a borrow, if its host need not be asked. Returns whether it did; otherwise
+    // nothing changes.
+    #[inline(always)]
+    fn lend_idle(
+        &mut self,
+        call: &mut Call,
+        caller: u32,
+        at: u64,
+        began: u64,
+        id: u64,
+        available: u64,
+    ) -> bool
+        requires asked { step_at call.old.operation ≡ Some (inputs.Borrow began) }
+        requires due { answers.Take id ≡ reply_from self.old.core.settings self.old.core.base
+            self.old.core.journal at (inputs.Borrow began) }
+        requires available { IsAvailable self.old available }
+        requires may { is_newcomer call.old ≡ true → may_come_in available self.old ≡ true }
+        ensures moves { result ≡ true → TakesFirst (inputs.Borrow began) true caller at self.old
+            self.new call.old call.new }
+        ensures overtakes { result ≡ true
+            → CountsOvertakes caller at self.old self.new call.old call.new }
+        ensures room { result ≡ true → lacks_room call.new.operation ≡ false }
+        ensures unchanged { result ≡ false → (self.new ≡ self.old) × (call.new ≡ call.old) }
+        ensures longer { call.new.longer ≡ call.old.longer }
+    {
+        let mut lent = *call;
+        tell_answer(&mut lent, Answer::Take(id), None);
+        if !is_ready(&lent, id) {
+            return false;
+        }
+        let Ok(token) = self.core.lend_idle(caller, at, began, id) else {
+            return false;
+        };
+        self.note_found(&mut lent, available);
+        tell_answer(&mut lent, Answer::Lent, Some(token));
+        *call = lent;
+        true
+    }
+
+    // Takes an idle object by the first step of a borrow. Returns whether it did; otherwise nothing changes.
+    #[inline(always)]
+    fn take_idle(
+        &mut self,
+        call: &mut Call,
+        caller: u32,
+        at: u64,
+        began: u64,
+        id: u64,
+        available: u64,
+    ) -> bool
+        requires asked { step_at call.old.operation ≡ Some (inputs.Borrow began) }
+        requires due { answers.Take id ≡ reply_from self.old.core.settings self.old.core.base
+            self.old.core.journal at (inputs.Borrow began) }
+        requires available { IsAvailable self.old available }
+        requires may { is_newcomer call.old ≡ true → may_come_in available self.old ≡ true }
+        ensures moves { result ≡ true → TakesFirst (inputs.Borrow began) true caller at self.old
+            self.new call.old call.new }
+        ensures overtakes { result ≡ true
+            → CountsOvertakes caller at self.old self.new call.old call.new }
+        ensures room { result ≡ true → lacks_room call.new.operation ≡ false }
+        ensures unchanged { result ≡ false → (self.new ≡ self.old) × (call.new ≡ call.old) }
+        ensures longer { call.new.longer ≡ call.old.longer }
+    {
+        let input = Input::Borrow { began };
+        let Ok(out) = self
+            .core
+            .step_due(caller, at, input, Answer::Take(id), None)
+        else {
+            return false;
+        };
+        tell_answer(call, Answer::Take(id), out);
+        self.note_found(call, available);
+        true
+    }
+
+    /// A borrow takes an idle object, if one is there and it may have it, and lends it if its host need not be asked.
+    /// Returns whether it took one; otherwise nothing changes.
+    #[inline(always)]
+    pub(crate) fn borrow_idle(&mut self, call: &mut Call, caller: u32, at: u64, began: u64) -> bool
+        requires asked { step_at call.old.operation ≡ Some (inputs.Borrow began) }
+        ensures moves { result ≡ true → TakesFirst (inputs.Borrow began) true caller at self.old
+            self.new call.old call.new }
+        ensures overtakes { result ≡ true
+            → CountsOvertakes caller at self.old self.new call.old call.new }
+        ensures room { result ≡ true → lacks_room call.new.operation ≡ false }
+        ensures unchanged { result ≡ false → (self.new ≡ self.old) × (call.new ≡ call.old) }
+        ensures longer { call.new.longer ≡ call.old.longer }
+    {
+        let available = self.available_to_newcomer();
+        if self.is_to_forget() || !self.may_ask(call, available) {
+            return false;
+        }
+        let Answer::Take(id) = self.core.due(at, Input::Borrow { began }) else {
+            return false;
+        };
+        if self.lend_idle(call, caller, at, began, id, available) {
+            return true;
+        }
+        self.take_idle(call, caller, at, began, id, available)
+    }
+
+    // Takes a lent object back by both steps of a return, if its host need not be asked and the queue has room. Returns
+    // whether it did; otherwise nothing changes.
+    #[inline(always)]
+    fn park_lent(&mut self, call: &mut Call, caller: u32, at: u64, id: u64) -> bool
+        requires asked { step_at call.old.operation ≡ Some (inputs.GiveBack id) }
+        requires due { answers.Check ≡ reply_from self.old.core.settings self.old.core.base
+            self.old.core.journal at (inputs.GiveBack id) }
+        ensures moves { result ≡ true → TakesFirst (inputs.GiveBack id) true caller at self.old
+            self.new call.old call.new }
+        ensures overtakes { result ≡ true
+            → CountsOvertakes caller at self.old self.new call.old call.new }
+        ensures room { result ≡ true → lacks_room call.new.operation ≡ false }
+        ensures unchanged { result ≡ false → (self.new ≡ self.old) × (call.new ≡ call.old) }
+        ensures longer { call.new.longer ≡ call.old.longer }
+    {
+        let mut parked = *call;
+        tell_answer(&mut parked, Answer::Check, None);
+        if !is_back(&parked, id) || !self.has_idle_room() {
+            return false;
+        }
+        self.core.park_lent(caller, at, id, parked.token);
+        tell_answer(&mut parked, Answer::Parked, None);
+        *call = parked;
+        true
+    }
+
+    // Has a lent object checked by the first step of its return.
+    #[inline(always)]
+    fn check_lent(&mut self, call: &mut Call, caller: u32, at: u64, id: u64)
+        requires asked { step_at call.old.operation ≡ Some (inputs.GiveBack id) }
+        requires due { answers.Check ≡ reply_from self.old.core.settings self.old.core.base
+            self.old.core.journal at (inputs.GiveBack id) }
+        ensures moves { TakesFirst (inputs.GiveBack id) true caller at self.old self.new call.old
+            call.new }
+        ensures overtakes { CountsOvertakes caller at self.old self.new call.old call.new }
+        ensures room { lacks_room call.new.operation ≡ false }
+        ensures longer { call.new.longer ≡ call.old.longer }
+    {
+        let input = Input::GiveBack { id };
+        let out = self.core.complete(caller, at, input, Answer::Check, None);
+        tell_answer(call, Answer::Check, out);
+    }
+
+    /// A return has its lent object checked, and gives it back if its host need not be asked. Returns whether the object is
+    /// lent; otherwise nothing changes.
+    #[inline(always)]
+    pub(crate) fn return_lent(&mut self, call: &mut Call, caller: u32, at: u64, id: u64) -> bool
+        requires asked { step_at call.old.operation ≡ Some (inputs.GiveBack id) }
+        ensures moves { result ≡ true → TakesFirst (inputs.GiveBack id) true caller at self.old
+            self.new call.old call.new }
+        ensures overtakes { result ≡ true
+            → CountsOvertakes caller at self.old self.new call.old call.new }
+        ensures room { result ≡ true → lacks_room call.new.operation ≡ false }
+        ensures unchanged { result ≡ false → (self.new ≡ self.old) × (call.new ≡ call.old) }
+        ensures longer { call.new.longer ≡ call.old.longer }
+    {
+        if self.is_to_forget() {
+            return false;
+        }
+        let Answer::Check = self.core.due(at, Input::GiveBack { id }) else {
+            return false;
+        };
+        if !self.park_lent(call, caller, at, id) {
+            self.check_lent(call, caller, at, id);
+        }
+        true
+    }
+}
