@@ -1,16 +1,19 @@
 //! The usual course of a borrow and of a return: an idle object is taken, and a lent one comes back. Where the host need
 //! not be asked, both steps are taken at once.
-ghost use Rattle.std.specs.Prelude.{◌≡◌, true, false, Some, IfNone, IfSome};
-ghost use Rattle.pool_calls.specs.Operations.{lacks_room, step_at};
+ghost use Rattle.std.specs.Prelude.{◌≡◌, max, true, false, List, None, Some, IfNone, IfSome};
+ghost use Rattle.std.specs.Option.{is_some};
+ghost use Rattle.pool_calls.specs.Operations.{HasCome, IsRight, is_over, lacks_room, step_at};
+ghost use Rattle.pool_calls.specs.Turns.{Turn, asks_room, is_done};
 ghost use Rattle.pool_core.specs.Reply.{has_room, reply_from};
 ghost use Rattle.pool_journal.specs.Base.{closed_from, records_from};
 ghost use Rattle.pool_journal.specs.declared.answer.Answer.TheVariants as answers;
 ghost use Rattle.pool_journal.specs.declared.input.Input.TheVariants as inputs;
 ghost use Rattle.pool_journal.specs.declared.input.Outcome.TheVariants as outcomes;
-ghost use Rattle.pool_driver.specs.Driving.{IsAvailable, TakesFirst, may_come_in};
+ghost use Rattle.pool_driver.specs.Driving.{GoesFrom, IsAvailable, TakesFirst, is_low_in, may_come_in, until_of};
 ghost use Rattle.pool_driver.specs.Overtaking.{CountsOvertakes, is_newcomer};
 
 use crate::call::Call;
+use crate::effects::Effects;
 use crate::pool::DrivenPool;
 use crate::stepping::tell_answer;
 use pool_calls::Action;
@@ -142,10 +145,10 @@ impl DrivenPool {
         true
     }
 
-    /// A borrow takes an idle object, if one is there and it may have it, and lends it if its host need not be asked.
-    /// Returns whether it took one; otherwise nothing changes.
+    // A borrow takes an idle object, if one is there and it may have it, and lends it if its host need not be asked.
+    // Returns whether it took one; otherwise nothing changes.
     #[inline(always)]
-    pub(crate) fn borrow_idle(&mut self, call: &mut Call, caller: u32, at: u64, began: u64) -> bool
+    fn borrow_idle(&mut self, call: &mut Call, caller: u32, at: u64, began: u64) -> bool
         requires asked { step_at call.old.operation ≡ Some (inputs.Borrow began) }
         ensures moves { result ≡ true → TakesFirst (inputs.Borrow began) true caller at self.old
             self.new call.old call.new }
@@ -211,10 +214,10 @@ impl DrivenPool {
         tell_answer(call, Answer::Check, out);
     }
 
-    /// A return has its lent object checked, and gives it back if its host need not be asked. Returns whether the object is
-    /// lent; otherwise nothing changes.
+    // A return has its lent object checked, and gives it back if its host need not be asked. Returns whether the object is
+    // lent; otherwise nothing changes.
     #[inline(always)]
-    pub(crate) fn return_lent(&mut self, call: &mut Call, caller: u32, at: u64, id: u64) -> bool
+    fn return_lent(&mut self, call: &mut Call, caller: u32, at: u64, id: u64) -> bool
         requires asked { step_at call.old.operation ≡ Some (inputs.GiveBack id) }
         ensures moves { result ≡ true → TakesFirst (inputs.GiveBack id) true caller at self.old
             self.new call.old call.new }
@@ -234,5 +237,61 @@ impl DrivenPool {
             self.check_lent(call, caller, at, id);
         }
         true
+    }
+
+    // Takes the first step of a borrow or of a return, as it usually is, and the second one if the host need not be asked.
+    // Returns whether it did; otherwise nothing changes.
+    #[inline(always)]
+    fn take_usual(&mut self, call: &mut Call, caller: u32, at: u64, input: Input) -> bool
+        requires asked { step_at call.old.operation ≡ Some input }
+        ensures moves { result ≡ true
+            → TakesFirst input true caller at self.old self.new call.old call.new }
+        ensures overtakes { result ≡ true
+            → CountsOvertakes caller at self.old self.new call.old call.new }
+        ensures room { result ≡ true → lacks_room call.new.operation ≡ false }
+        ensures unchanged { result ≡ false → (self.new ≡ self.old) × (call.new ≡ call.old) }
+        ensures longer { call.new.longer ≡ call.old.longer }
+    {
+        match input {
+            Input::Borrow { began } => self.borrow_idle(call, caller, at, began),
+            Input::GiveBack { id } => self.return_lent(call, caller, at, id),
+            _ => false,
+        }
+    }
+
+    /// Goes on with a borrow or a return that begins, as `advance` with `GoOn`, if it takes its usual course.
+    ///
+    /// Returns `None`, and changes nothing, if it does not, or is another call.
+    #[inline(always)]
+    pub fn begin_usual(&mut self, call: &mut Call, caller: u32, at: u64) -> Option<Effects>
+        ensures told { IfSome result (λ e. GoesFrom (step_at call.old.operation) caller
+            (max at self.old.last) self.old self.new call.old call.new
+            × CountsOvertakes caller (max at self.old.last) self.old self.new call.old call.new) }
+        ensures last { IfSome result (λ e. self.new.last ≡ max at self.old.last) }
+        ensures action { IfSome result (λ e. (turns : List Turn)
+            → HasCome call.new.operation turns → IsRight call.new.operation turns e.action) }
+        ensures over { IfSome result (λ e. is_done e.action ≡ is_over call.new.operation) }
+        ensures ended { IfSome result (λ e. is_done e.action ≡ true → call.new.ticket ≡ None) }
+        ensures token { IfSome result (λ e. e.token ≡ call.new.token) }
+        ensures ticket { IfSome result (λ e. e.ticket ≡ call.new.ticket) }
+        ensures until { IfSome result (λ e. e.until
+            ≡ until_of self.new.core.settings call.new) }
+        ensures room { IfSome result (λ e. asks_room e.action ≡ false) }
+        ensures low { IfSome result (λ e. e.is_low ≡ is_low_in self.new.core) }
+        ensures begins { IfSome result (λ e. is_some (step_at call.old.operation) ≡ true) }
+        ensures unchanged { IfNone result ((self.new ≡ self.old) × (call.new ≡ call.old)) }
+        ensures longer { call.new.longer ≡ call.old.longer }
+    {
+        let at = at.max(self.last);
+        let Action::Step(input) = call.operation.action() else {
+            return None;
+        };
+        if !self.take_usual(call, caller, at, input) {
+            return None;
+        }
+        let action = call.operation.action();
+        self.leave_at_end(call, action);
+        self.last = at;
+        Some(self.effects(call, action))
     }
 }

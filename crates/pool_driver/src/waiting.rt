@@ -434,9 +434,9 @@ impl DrivenPool {
         Some(answer)
     }
 
-    // A borrow asks for an object, or waits behind those that come first. Returns whether it took a step.
+    /// A borrow asks for an object, or waits behind those that come first. Returns whether it took a step.
     #[inline(never)]
-    fn ask_or_wait(&mut self, call: &mut Call, caller: u32, at: u64, began: u64) -> bool
+    pub(crate) fn ask(&mut self, call: &mut Call, caller: u32, at: u64, began: u64) -> bool
         requires asked { step_at call.old.operation ≡ Some (inputs.Borrow began) }
         requires room { lacks_room call.old.operation ≡ false }
         ensures moves { TakesFirst (inputs.Borrow began) result caller at self.old self.new call.old
@@ -459,23 +459,5 @@ impl DrivenPool {
             return false;
         }
         self.look(call, caller, at, began, available).is_some()
-    }
-
-    /// A borrow asks for an object, or waits behind those that come first. Where an idle one is there for it, it takes that, and
-    /// lends it if the host need not be asked. Returns whether it took a step.
-    #[inline(always)]
-    pub(crate) fn ask(&mut self, call: &mut Call, caller: u32, at: u64, began: u64) -> bool
-        requires asked { step_at call.old.operation ≡ Some (inputs.Borrow began) }
-        requires room { lacks_room call.old.operation ≡ false }
-        ensures moves { TakesFirst (inputs.Borrow began) result caller at self.old self.new call.old
-            call.new }
-        ensures overtakes { CountsOvertakes caller at self.old self.new call.old call.new }
-        ensures room { LacksRoomOnlyEmpty self.old.drops self.new.core call.new.operation }
-        ensures longer { call.new.longer ≡ call.old.longer }
-    {
-        if self.borrow_idle(call, caller, at, began) {
-            return true;
-        }
-        self.ask_or_wait(call, caller, at, began)
     }
 }
