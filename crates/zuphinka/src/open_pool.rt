@@ -1,7 +1,9 @@
 //! A pool for C: what each export of the library works on.
-ghost use Rattle.std.specs.Prelude.{◌≡◌, IfNone, IfOk, IfSome};
+ghost use Rattle.std.specs.Prelude.{◌≡◌, IfNone, IfOk, IfSome, Some};
 ghost use Rattle.std.specs.Option.{is_some};
 ghost use Rattle.pool_driver.specs.Driving.{Opened, fits_report};
+ghost use Rattle.pool_driver.specs.declared.report.Report.TheVariants as reports;
+ghost use Rattle.zuphinka.specs.CallCodes.{kind_at};
 ghost use Rattle.zuphinka.specs.Calling.{AdvancesTo, BeginsTo, ChecksTo, GoesOn, LendsTo, LimitsOvertakes, ReportsState, TakesBackTo, TakesTo, WakesTo, ends_loan, is_lent_in, running_after, running_with};
 ghost use Rattle.zuphinka.specs.Opening.{options_of};
 
@@ -11,7 +13,7 @@ use crate::host_call::HostCall;
 use crate::loan::Loan;
 use crate::pool_options::PoolOptions;
 use crate::pool_state::PoolState;
-use crate::starting::CallStart;
+use crate::starting::{CallStart, Kind};
 use crate::status::Status;
 use pool_core::Recorder;
 use pool_driver::{Call, DrivenPool, Hooks, Report};
@@ -72,6 +74,19 @@ fn go_on(
     Some(CallEffects::of(&made, &call.operation(), wake))
 }
 
+// Goes on with a borrow or a return that begins, as `go_on` with `GoOn`, if it takes its usual course. Returns `None` if it does
+// not, or is another call.
+#[inline(always)]
+fn go_usually(driven: &mut DrivenPool, call: &mut Call, caller: u32, at: u64) -> Option<CallEffects>
+    ensures goes { IfSome result (λ r. GoesOn caller at reports.GoOn driven.old driven.new call.old
+        call.new r) }
+    ensures unchanged { IfNone result ((driven.new ≡ driven.old) × (call.new ≡ call.old)) }
+{
+    let made = driven.begin_usual(call, caller, at)?;
+    let wake = driven.next_wake();
+    Some(CallEffects::of(&made, &call.operation(), wake))
+}
+
 // The number of calls in progress after one began, up to 2^64 - 1.
 #[inline(always)]
 fn running_with(running: u64, is_running: bool) -> u64
@@ -128,19 +143,19 @@ impl OpenPool {
         self.driven.core()
     }
 
-    /// Begins a call.
-    pub(crate) fn begin(
+    // Begins a call of this kind.
+    #[inline(never)]
+    fn begin_as(
         &mut self,
         start: &CallStart,
+        kind: Kind,
         host: &mut HostCall,
         effects: &mut CallEffects,
     ) -> Status
+        requires { kind_at start.now.kind ≡ Some kind }
         ensures { BeginsTo start.now self.old self.new host.old host.new effects.old effects.new
             result }
     {
-        let Some(kind) = start.kind() else {
-            return Status::BadRequest;
-        };
         let mut call = start.call(&self.driven, kind);
         let report = Report::GoOn;
         match go_on(&mut self.driven, &mut call, start.caller, start.at, report) {
@@ -151,6 +166,50 @@ impl OpenPool {
                 Status::Done
             }
             None => unreachable!(),
+        }
+    }
+
+    // Begins a borrow or a return, which is over at once, or has its host work on an object, as a rule.
+    #[inline(always)]
+    fn begin_usual(
+        &mut self,
+        start: &CallStart,
+        kind: Kind,
+        host: &mut HostCall,
+        effects: &mut CallEffects,
+    ) -> Status
+        requires { kind_at start.now.kind ≡ Some kind }
+        ensures { BeginsTo start.now self.old self.new host.old host.new effects.old effects.new
+            result }
+    {
+        let mut call = start.call(&self.driven, kind);
+        match go_usually(&mut self.driven, &mut call, start.caller, start.at) {
+            Some(next) => {
+                *effects = next;
+                let is_running = host.keep(self.number, &call);
+                self.running = running_with(self.running, is_running);
+                Status::Done
+            }
+            None => self.begin_as(start, kind, host, effects),
+        }
+    }
+
+    /// Begins a call.
+    #[inline(always)]
+    pub(crate) fn begin(
+        &mut self,
+        start: &CallStart,
+        host: &mut HostCall,
+        effects: &mut CallEffects,
+    ) -> Status
+        ensures { BeginsTo start.now self.old self.new host.old host.new effects.old effects.new
+            result }
+    {
+        match start.kind() {
+            Some(Kind::Borrow) => self.begin_usual(start, Kind::Borrow, host, effects),
+            Some(Kind::Return) => self.begin_usual(start, Kind::Return, host, effects),
+            Some(kind) => self.begin_as(start, kind, host, effects),
+            None => Status::BadRequest,
         }
     }
 

@@ -41,6 +41,7 @@ pub struct CallStart {
 }
 
 // Returns the kind with this code, if it is one.
+#[inline(always)]
 fn kind_at(code: u32) -> Option<Kind>
     ensures { result ≡ kind_at code }
 {
@@ -62,6 +63,7 @@ fn kind_at(code: u32) -> Option<Kind>
 
 impl CallStart {
     /// Returns the kind of the call, if its code is valid.
+    #[inline(always)]
     pub(crate) fn kind(&self) -> Option<Kind>
         ensures { result ≡ kind_at self.now.kind }
     {
@@ -69,6 +71,7 @@ impl CallStart {
     }
 
     /// Returns a call of this kind, which begins.
+    #[inline(always)]
     pub(crate) fn call(&self, pool: &DrivenPool, kind: Kind) -> Call
         ensures begins { Begins pool.now.plan result }
         ensures is { IsKind self.now pool.now.last kind result }
