@@ -89,6 +89,7 @@ impl DrivenPool {
 
     /// Returns the time at which the wait of a borrow is over, in milliseconds: by the settings, and by what it may last
     /// longer.
+    #[inline(always)]
     pub(crate) fn until(&self, call: &Call) -> Option<u64>
         ensures { result ≡ until_of self.now.core.settings call.now }
     {
@@ -107,6 +108,7 @@ impl DrivenPool {
     }
 
     // A call waits no longer: its ticket leaves.
+    #[inline(always)]
     fn leave(&mut self, call: &mut Call)
         ensures rest { self.new ≡ record self.old {
           queue = self.new.queue;
@@ -221,6 +223,7 @@ impl DrivenPool {
     }
 
     /// A call whose action is its end leaves the queue.
+    #[inline(always)]
     pub(crate) fn leave_at_end(&mut self, call: &mut Call, action: Action)
         ensures accepts { Accepts reports.GoOn self.old self.new call.old call.new }
         ensures rests { Rests self.old self.new call.old call.new }
@@ -271,6 +274,7 @@ impl DrivenPool {
     }
 
     // A borrow took something. If it had no ticket, and took nothing before, it overtook those that wait.
+    #[inline(always)]
     fn count_overtake(&mut self, call: &Call, available: u64)
         requires { call.now.ticket ≡ None → call.now.was_served ≡ false
             → may_lend available self.old.queue ≡ true }
@@ -285,6 +289,7 @@ impl DrivenPool {
     }
 
     /// A borrow found something, and waits no longer. It overtook those that wait if it is a newcomer.
+    #[inline(always)]
     pub(crate) fn note_found(&mut self, call: &mut Call, available: u64)
         requires { call.old.ticket ≡ None → call.old.was_served ≡ false
             → may_lend available self.old.queue ≡ true }

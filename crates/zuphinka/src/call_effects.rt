@@ -39,6 +39,7 @@ pub struct CallEffects {
     pub is_low: bool,
 }
 
+#[inline(always)]
 fn code_of_action(action: Action) -> u32
     ensures { result ≡ action_code action }
 {
@@ -55,6 +56,7 @@ fn code_of_action(action: Action) -> u32
     }
 }
 
+#[inline(always)]
 fn code_of_end(end: End) -> u32
     ensures { result ≡ end_code end }
 {
@@ -82,6 +84,7 @@ fn code_of_end(end: End) -> u32
     }
 }
 
+#[inline(always)]
 fn end_of_action(action: Action) -> u32
     ensures { result ≡ action_end action }
 {
@@ -91,6 +94,7 @@ fn end_of_action(action: Action) -> u32
     }
 }
 
+#[inline(always)]
 fn number_of_action(action: Action) -> u64
     ensures { result ≡ action_number action }
 {
@@ -106,6 +110,7 @@ fn number_of_action(action: Action) -> u64
 }
 
 impl CallEffects {
+    #[inline(always)]
     pub(crate) fn of(effects: &Effects, operation: &Operation, wake: Option<u64>) -> CallEffects
         ensures { IsReadAs effects.now operation.now wake result }
     {
