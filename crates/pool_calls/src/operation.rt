@@ -1,5 +1,5 @@
 //! A call of any kind: what its host does next, and what follows from what the host reports.
-ghost use Rattle.std.specs.Prelude.{◌≡◌, ◌<◌, ◌≤◌, true, false, List, [], Some, IfNone};
+ghost use Rattle.std.specs.Prelude.{◌≡◌, ◌<◌, ◌≤◌, true, false, List, [], Some, IfNone, IfSome};
 ghost use Rattle.pool_calls.specs.declared.action.Event.TheVariants as events;
 ghost use Rattle.pool_calls.specs.Left.{reports_left, stage_left};
 ghost use Rattle.pool_calls.specs.Progress.{Takes};
@@ -90,6 +90,7 @@ impl Operation {
     }
 
     // The step for a request.
+    #[inline(always)]
     fn step_for(&self, request: Request) -> Input
         ensures { result ≡ step_for self.now.kind request }
     {
@@ -175,6 +176,34 @@ impl Operation {
         self.move_to(Event::Answered(answer), place);
     }
 
+    // The stage after a usual answer to a borrow or a return; `None` if it is none.
+    #[inline(always)]
+    fn usual_stage(&self, answer: Answer) -> Option<Stage>
+        ensures step { IfSome result (λ s. rules.has_step self.now.place ≡ true) }
+        ensures due { IfSome result
+            (λ s. s ≡ rules.stage_after self.now.kind self.now.place answer) }
+        ensures awake { IfSome result (λ s. rules.comes_to_wait self.now.kind
+            (events.Answered answer) self.now.place ≡ false) }
+        ensures left { IfSome result (λ s. self.now.given_up ≡ true
+            → stage_left s < reports_left self.now.place) }
+        ensures fits { IfSome result (λ s. fits self.now (events.Answered answer) ≡ true) }
+    {
+        match self.place {
+            Place::Asks(Request::Ask) => match (self.kind, answer) {
+                (Kind::Borrow(_), Answer::Take(id)) | (Kind::Return(id), Answer::Check) => {
+                    Some(works(id, false, 0))
+                }
+                _ => None,
+            },
+            Place::Reports(Outcome::Good, object) => match (self.kind, answer) {
+                (Kind::Borrow(_), Answer::Lent) => Some(Stage::Ends(End::Lent(object.id))),
+                (Kind::Return(_), Answer::Parked) => Some(Stage::Ends(End::Parked)),
+                _ => None,
+            },
+            _ => None,
+        }
+    }
+
     // Reports a usual answer to a borrow or a return. Returns whether it is one; otherwise nothing
     // changes.
     #[inline(always)]
@@ -187,27 +216,11 @@ impl Operation {
         ensures fits { result ≡ true → fits self.old (events.Answered answer) ≡ true }
         ensures unusual { result ≡ false → self.new ≡ self.old }
     {
-        match self.place {
-            Place::Asks(Request::Ask) => match (self.kind, answer) {
-                (Kind::Borrow(_), Answer::Take(id)) | (Kind::Return(id), Answer::Check) => {
-                    self.move_by(answer, works(id, false, 0));
-                    true
-                }
-                _ => false,
-            },
-            Place::Reports(Outcome::Good, object) => match (self.kind, answer) {
-                (Kind::Borrow(_), Answer::Lent) => {
-                    self.move_by(answer, Stage::Ends(End::Lent(object.id)));
-                    true
-                }
-                (Kind::Return(_), Answer::Parked) => {
-                    self.move_by(answer, Stage::Ends(End::Parked));
-                    true
-                }
-                _ => false,
-            },
-            _ => false,
-        }
+        let Some(stage) = self.usual_stage(answer) else {
+            return false;
+        };
+        self.move_by(answer, stage);
+        true
     }
 
     // Reports a success of the factory. Returns whether it fits.
