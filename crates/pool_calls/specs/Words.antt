@@ -82,10 +82,10 @@ object_in w = record { id = w.id; is_new = is_set w.is_new; left = w.left }
 -- the place, if it is one of a call in progress
 abbrev pub place_in : PlaceWords → Option Place
 place_in w =
-    if w.code == 1 then option_map places.Asks (request_in w.detail w.left)
-    else (if w.code == 2 then option_map places.LacksRoom (request_in w.detail w.left)
-    else (if w.code == 3 then Some places.Waits
-    else (if w.code == 4 then option_map (λ t. places.Works t (object_in w)) (task_at w.detail)
+    if w.code == 1 then option_map (λ t. places.Works t (object_in w)) (task_at w.detail)
+    else (if w.code == 2 then Some places.Waits
+    else (if w.code == 3 then option_map places.Asks (request_in w.detail w.left)
+    else (if w.code == 4 then option_map places.LacksRoom (request_in w.detail w.left)
     else (if w.code == 5 then option_map (λ o. places.Reports o (object_in w)) (outcome_at w.detail)
     else (if w.code == 6 then option_map (λ o. places.Destroys o (object_in w)) (outcome_at w.detail)
     else (if w.code == 7 then option_map (λ o. places.Frees o (object_in w)) (outcome_at w.detail)
@@ -93,10 +93,14 @@ place_in w =
     else None)))))))
 
 -- ---- a call
+-- the numbers of its place
+abbrev pub place_of : OperationWords → PlaceWords
+place_of w = record { id = w.id; left = w.left; is_new = w.is_new; code = w.place; detail = w.detail }
+
 -- the numbers are those of this call
 pub record Reads (w : OperationWords) (op : Operation) : Type 0 where
   pub kind : kind_in w.kind w.number ≡ Some op.kind
-  pub place : place_in w.place ≡ Some op.place
+  pub place : place_in (place_of w) ≡ Some op.place
   pub plan : plan_in w.plan ≡ op.plan
   pub given_up : is_set w.given_up ≡ op.given_up
   pub tally : w.tally ≡ op.tally

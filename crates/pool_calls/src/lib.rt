@@ -31,5 +31,4 @@ pub use plan::Plan;
 pub use stage::{Object, Place, Request, Stage};
 pub use tally::Tally;
 pub use waiters::Waiters;
-pub use words::{flag, is_set};
 pub use work::{Task, Work};

@@ -26,6 +26,14 @@ impl Stage {
 }
 
 impl Place {
+    // Whether the call is over.
+    #[inline(always)]
+    pub(crate) fn is_over(&self) -> bool
+        ensures { result ≡ rules.is_over self.now }
+    {
+        matches!(self, Place::Ended(_))
+    }
+
     // Whether the factory does something.
     pub(crate) fn has_work(&self) -> bool
         ensures { result ≡ rules.has_work self.now }

@@ -1,6 +1,5 @@
 //! The parts of a call in progress as plain numbers.
-ghost use Rattle.std.specs.Prelude.{◌≡◌, not, Some, IfSome, IfNone};
-ghost use Rattle.std.specs.Option.{is_some};
+ghost use Rattle.std.specs.Prelude.{◌≡◌, false, Some};
 ghost use Rattle.pool_calls.specs.Rules.{is_over};
 ghost use Rattle.pool_calls.specs.Words.{is_set, kind_in, object_in, outcome_at, place_in, plan_in, request_in, task_at};
 
@@ -23,21 +22,20 @@ pub struct PlanWords {
 }
 
 /// The place of a call in progress. The code determines which fields are read.
-#[repr(C)]
 #[derive(Clone, Copy)]
-pub struct PlaceWords {
+pub(crate) struct PlaceWords {
     // The object, with 0 for one that is not new.
-    id: u64,
-    left: u64,
-    is_new: u8,
-    code: u8,
+    pub id: u64,
+    pub left: u64,
+    pub is_new: u8,
+    pub code: u32,
     // The code of the request, the task or the outcome.
-    detail: u8,
+    pub detail: u16,
 }
 
 /// Returns a flag: 0 for `false`.
 #[inline(always)]
-pub fn flag(is: bool) -> u8
+pub(crate) fn flag(is: bool) -> u8
     ensures { is_set result ≡ is }
 {
     u8::from(is)
@@ -45,7 +43,7 @@ pub fn flag(is: bool) -> u8
 
 /// Returns whether a flag is set.
 #[inline(always)]
-pub fn is_set(flag: u8) -> bool
+pub(crate) fn is_set(flag: u8) -> bool
     ensures { result ≡ is_set flag }
 {
     flag != 0
@@ -83,7 +81,7 @@ impl PlanWords {
 
 // The code of a kind, and its number.
 #[inline(always)]
-pub(crate) fn words_of_kind(kind: Kind) -> (u8, u64)
+pub(crate) fn words_of_kind(kind: Kind) -> (u16, u64)
     ensures { kind_in result.0 result.1 ≡ Some kind }
 {
     match kind {
@@ -101,13 +99,19 @@ pub(crate) fn words_of_kind(kind: Kind) -> (u8, u64)
     }
 }
 
+// The kind of a code and a number. Most calls borrow or return, so their codes are looked at first.
 #[inline(always)]
-pub(crate) fn kind_in(code: u8, number: u64) -> Option<Kind>
+pub(crate) fn kind_in(code: u16, number: u64) -> Option<Kind>
     ensures { result ≡ kind_in code number }
 {
+    if code < 3 {
+        return match code {
+            1 => Some(Kind::Borrow(number)),
+            2 => Some(Kind::Return(number)),
+            _ => None,
+        };
+    }
     match code {
-        1 => Some(Kind::Borrow(number)),
-        2 => Some(Kind::Return(number)),
         3 => Some(Kind::Invalidate(number)),
         4 => Some(Kind::Detach(number)),
         5 => Some(Kind::Touch(number)),
@@ -122,7 +126,7 @@ pub(crate) fn kind_in(code: u8, number: u64) -> Option<Kind>
 }
 
 #[inline(always)]
-fn code_of_task(task: Task) -> u8
+fn code_of_task(task: Task) -> u16
     ensures { task_at result ≡ Some task }
 {
     match task {
@@ -135,7 +139,7 @@ fn code_of_task(task: Task) -> u8
 }
 
 #[inline(always)]
-fn task_at(code: u8) -> Option<Task>
+fn task_at(code: u16) -> Option<Task>
     ensures { result ≡ task_at code }
 {
     match code {
@@ -149,7 +153,7 @@ fn task_at(code: u8) -> Option<Task>
 }
 
 #[inline(always)]
-fn code_of_outcome(outcome: Outcome) -> u8
+fn code_of_outcome(outcome: Outcome) -> u16
     ensures { outcome_at result ≡ Some outcome }
 {
     match outcome {
@@ -163,7 +167,7 @@ fn code_of_outcome(outcome: Outcome) -> u8
 }
 
 #[inline(always)]
-fn outcome_at(code: u8) -> Option<Outcome>
+fn outcome_at(code: u16) -> Option<Outcome>
     ensures { result ≡ outcome_at code }
 {
     match code {
@@ -180,7 +184,7 @@ fn outcome_at(code: u8) -> Option<Outcome>
 impl PlaceWords {
     // The words of a place with this object.
     #[inline(always)]
-    fn at(code: u8, detail: u8, object: Object) -> PlaceWords
+    fn at(code: u32, detail: u16, object: Object) -> PlaceWords
         ensures code { result.code ≡ code }
         ensures detail { result.detail ≡ detail }
         ensures object { object_in result ≡ object }
@@ -197,7 +201,7 @@ impl PlaceWords {
 
     // The words of a place with a request.
     #[inline(always)]
-    fn asking(code: u8, request: Request) -> PlaceWords
+    fn asking(code: u32, request: Request) -> PlaceWords
         ensures code { result.code ≡ code }
         ensures request { request_in result.detail result.left ≡ Some request }
     {
@@ -210,37 +214,22 @@ impl PlaceWords {
         PlaceWords::at(code, detail, Object { id, is_new, left })
     }
 
-    // The words of a place; `None` of one that is over.
+    // The words of a place that is not over.
     #[inline(always)]
-    pub(crate) fn of(place: Place) -> Option<PlaceWords>
-        ensures reads { IfSome result (λ w. place_in w ≡ Some place) }
-        ensures over { is_some result ≡ not (is_over place) }
+    pub(crate) fn of(place: Place) -> PlaceWords
+        ensures { is_over place ≡ false → place_in result ≡ Some place }
     {
-        let (is_new, left) = (false, 0);
+        let (id, is_new, left) = (0, false, 0);
         match place {
-            Place::Asks(request) => Some(PlaceWords::asking(1, request)),
-            Place::LacksRoom(request) => Some(PlaceWords::asking(2, request)),
-            Place::Waits => Some(PlaceWords::at(
-                3,
-                0,
-                Object {
-                    id: 0,
-                    is_new,
-                    left,
-                },
-            )),
-            Place::Works(task, object) => Some(PlaceWords::at(4, code_of_task(task), object)),
-            Place::Reports(outcome, object) => {
-                Some(PlaceWords::at(5, code_of_outcome(outcome), object))
-            }
-            Place::Destroys(outcome, object) => {
-                Some(PlaceWords::at(6, code_of_outcome(outcome), object))
-            }
-            Place::Frees(outcome, object) => {
-                Some(PlaceWords::at(7, code_of_outcome(outcome), object))
-            }
-            Place::DestroysGone(id) => Some(PlaceWords::at(8, 0, Object { id, is_new, left })),
-            Place::Ended(_) => None,
+            Place::Works(task, object) => PlaceWords::at(1, code_of_task(task), object),
+            Place::Waits => PlaceWords::at(2, 0, Object { id, is_new, left }),
+            Place::Asks(request) => PlaceWords::asking(3, request),
+            Place::LacksRoom(request) => PlaceWords::asking(4, request),
+            Place::Reports(outcome, object) => PlaceWords::at(5, code_of_outcome(outcome), object),
+            Place::Destroys(outcome, object) => PlaceWords::at(6, code_of_outcome(outcome), object),
+            Place::Frees(outcome, object) => PlaceWords::at(7, code_of_outcome(outcome), object),
+            Place::DestroysGone(id) => PlaceWords::at(8, 0, Object { id, is_new, left }),
+            Place::Ended(_) => PlaceWords::at(0, 0, Object { id, is_new, left }),
         }
     }
 
@@ -267,16 +256,21 @@ impl PlaceWords {
         }
     }
 
-    // The place, if it is one of a call in progress.
+    // The place, if it is one of a call in progress. Of most calls the factory does a task, so that code is looked at first.
     #[inline(always)]
     pub(crate) fn place(&self) -> Option<Place>
         ensures { result ≡ place_in self.now }
     {
+        if self.code < 2 {
+            return match self.code {
+                1 => Some(Place::Works(task_at(self.detail)?, self.object())),
+                _ => None,
+            };
+        }
         match self.code {
-            1 => self.request().map(Place::Asks),
-            2 => self.request().map(Place::LacksRoom),
-            3 => Some(Place::Waits),
-            4 => Some(Place::Works(task_at(self.detail)?, self.object())),
+            2 => Some(Place::Waits),
+            3 => self.request().map(Place::Asks),
+            4 => self.request().map(Place::LacksRoom),
             5 => Some(Place::Reports(outcome_at(self.detail)?, self.object())),
             6 => Some(Place::Destroys(outcome_at(self.detail)?, self.object())),
             7 => Some(Place::Frees(outcome_at(self.detail)?, self.object())),

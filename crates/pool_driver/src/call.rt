@@ -9,12 +9,12 @@ pub struct Call {
     pub(crate) operation: Operation,
     // The token of its object.
     pub(crate) token: u64,
+    // By how many milliseconds the wait of a borrow may be longer than the settings say.
+    pub(crate) longer: u64,
     // Its ticket, while it waits.
     pub(crate) ticket: Option<u64>,
     // Whether it found something before, so that it goes before those that wait.
     pub(crate) was_served: bool,
-    // By how many milliseconds the wait of a borrow may be longer than the settings say.
-    pub(crate) longer: u64,
 }
 
 impl Call {
@@ -29,9 +29,9 @@ impl Call {
         Call {
             operation,
             token,
+            longer: 0,
             ticket: None,
             was_served: false,
-            longer: 0,
         }
     }
 

@@ -5,7 +5,7 @@ ghost use Rattle.pool_calls.specs.Operations.{is_over};
 ghost use Rattle.pool_driver.specs.Words.{Reads, ReadsNone};
 
 use crate::call::Call;
-use pool_calls::{OperationWords, flag, is_set};
+use pool_calls::OperationWords;
 
 /// A call in progress as plain numbers.
 #[repr(C)]
@@ -13,11 +13,12 @@ use pool_calls::{OperationWords, flag, is_set};
 pub struct CallWords {
     operation: OperationWords,
     token: u64,
+    longer: u64,
     // The ticket, if it has one.
     ticket: u64,
-    longer: u64,
-    has_ticket: u8,
-    was_served: u8,
+    // Flags, with 0 for `false`.
+    has_ticket: u32,
+    was_served: u32,
 }
 
 impl Call {
@@ -30,10 +31,10 @@ impl Call {
         Some(CallWords {
             operation: self.operation.words()?,
             token: self.token,
-            ticket: self.ticket.unwrap_or(0),
             longer: self.longer,
-            has_ticket: flag(self.ticket.is_some()),
-            was_served: flag(self.was_served),
+            ticket: self.ticket.unwrap_or(0),
+            has_ticket: u32::from(self.ticket.is_some()),
+            was_served: u32::from(self.was_served),
         })
     }
 }
@@ -45,17 +46,18 @@ impl CallWords {
         ensures reads { IfSome result (λ c. Reads self.now c) }
         ensures none { IfNone result (ReadsNone self.now) }
     {
-        let ticket = if is_set(self.has_ticket) {
+        let operation = self.operation.operation()?;
+        let ticket = if self.has_ticket != 0 {
             Some(self.ticket)
         } else {
             None
         };
         Some(Call {
-            operation: self.operation.operation()?,
+            operation,
             token: self.token,
-            ticket,
-            was_served: is_set(self.was_served),
             longer: self.longer,
+            ticket,
+            was_served: self.was_served != 0,
         })
     }
 }

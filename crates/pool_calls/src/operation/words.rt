@@ -2,7 +2,7 @@
 ghost use Rattle.std.specs.Prelude.{◌≡◌, not, IfSome, IfNone};
 ghost use Rattle.std.specs.Option.{is_some};
 ghost use Rattle.pool_calls.specs.Operations.{is_over};
-ghost use Rattle.pool_calls.specs.Words.{Reads, ReadsNone};
+ghost use Rattle.pool_calls.specs.Words.{Reads, ReadsNone, place_of};
 
 use super::Operation;
 use crate::stage::Place;
@@ -13,13 +13,19 @@ use crate::words::{PlaceWords, PlanWords, flag, is_set, kind_in, words_of_kind};
 #[repr(C)]
 #[derive(Clone, Copy)]
 pub struct OperationWords {
-    place: PlaceWords,
+    // The object of the place.
+    id: u64,
+    left: u64,
     tally: Tally,
     // The time or the id of the kind; 0 if it has none.
     number: u64,
-    kind: u8,
-    given_up: u8,
     plan: PlanWords,
+    given_up: u8,
+    is_new: u8,
+    // The codes of the place, of its request, task or outcome, and of the kind.
+    place: u32,
+    detail: u16,
+    kind: u16,
 }
 
 impl Operation {
@@ -29,20 +35,40 @@ impl Operation {
         ensures reads { IfSome result (λ w. Reads w self.now) }
         ensures over { is_some result ≡ not (is_over self.now) }
     {
-        let place = PlaceWords::of(self.place)?;
+        if self.place.is_over() {
+            return None;
+        }
+        let place = PlaceWords::of(self.place);
         let (kind, number) = words_of_kind(self.kind);
         Some(OperationWords {
-            place,
+            id: place.id,
+            left: place.left,
             tally: self.tally,
             number,
-            kind,
-            given_up: flag(self.given_up),
             plan: PlanWords::of(&self.plan),
+            given_up: flag(self.given_up),
+            is_new: place.is_new,
+            place: place.code,
+            detail: place.detail,
+            kind,
         })
     }
 }
 
 impl OperationWords {
+    #[inline(always)]
+    fn place(&self) -> PlaceWords
+        ensures { result ≡ place_of self.now }
+    {
+        PlaceWords {
+            id: self.id,
+            left: self.left,
+            is_new: self.is_new,
+            code: self.place,
+            detail: self.detail,
+        }
+    }
+
     /// Returns the call that has these numbers, if there is one.
     #[inline(always)]
     pub fn operation(&self) -> Option<Operation>
@@ -50,7 +76,7 @@ impl OperationWords {
         ensures none { IfNone result (ReadsNone self.now) }
     {
         let kind = kind_in(self.kind, self.number)?;
-        let place = self.place.place()?;
+        let place = self.place().place()?;
         let given_up = is_set(self.given_up);
         if given_up && !place.ends_soon() {
             return None;
