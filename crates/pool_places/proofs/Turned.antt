@@ -25,30 +25,6 @@ use Rattle.pool_places.proofs.Found.{Found, set_kept, well_formed_set}
 use Rattle.pool_places.proofs.Keeping.{found_id}
 use Rattle.pool_places.proofs.SlotLists.{item_known, key_there, record_under, place_item, place_same, item_and, Good, each_good, spot, found_key, Turns, kept_turned, tied_turned, line_left, line_stays}
 
-all_push : (P : Pair → Type 0) (ps : List Pair) (p : Pair) → AllByRecursion P ps → P p → AllByRecursion P (ps ++ p ∷ [])
-all_push P [] p all last = (last, tt)
-all_push P (q ∷ ps) p all last = (all.0, all_push P ps p all.1 last)
-
-pub ascending_push : (ps : List Pair) (p : Pair) → IsAscending ps → IdsBelow p.id ps → IsAscending (ps ++ p ∷ [])
-ascending_push [] p up below = (tt, tt)
-ascending_push (q ∷ ps) p up below = (all_push (λ x. q.id < x.id) ps p up.0 below.0, ascending_push ps p up.1 below.1)
-
-below_without : (n i : ℕ) (ps : List Pair) → AllByRecursion (λ q. n < q.id) ps → AllByRecursion (λ q. n < q.id) (without_pair i ps)
-below_without n i [] above = tt
-below_without n i (p ∷ ps) above = by_test (not (i == p.id)) (below_without n i ps above.1)
-  where
-    by_test : (b : Bool) → AllByRecursion (λ q. n < q.id) (without_pair i ps) → AllByRecursion (λ q. n < q.id) (cond b (p ∷ without_pair i ps) (without_pair i ps))
-    by_test true later = (above.0, later)
-    by_test false later = later
-
-pub ascending_without : (i : ℕ) (ps : List Pair) → IsAscending ps → IsAscending (without_pair i ps)
-ascending_without i [] up = tt
-ascending_without i (p ∷ ps) up = by_test (not (i == p.id)) (ascending_without i ps up.1)
-  where
-    by_test : (b : Bool) → IsAscending (without_pair i ps) → IsAscending (cond b (p ∷ without_pair i ps) (without_pair i ps))
-    by_test true later = (below_without p.id i ps up.0, later)
-    by_test false later = later
-
 module _ {T : Type 0} where
   -- ---- one change after another
   pub sets_then : (a b c : SlotsModel T) (key : ℕ) (x y : Option (Item T)) → Sets a b key x → Sets b c key y → Sets a c key y

@@ -1,7 +1,8 @@
 -- The result of a binary search among stored pairs, and what follows for the present ones.
-use Rattle.std.proofs.Common.{◌≡◌, ◌≢◌, ℕ, zero, suc, ◌+◌, ◌<◌, ◌≤◌, eqb, Bool, true, false, not, cond, List, [], ◌∷◌, length, get_or, Option, Some, None, Result, Ok, Err, IfSome, IfNone, refl, ap, sym, ◌∙◌, inl, inr, arith, subst}
-use Rattle.std.specs.Prelude.{filter, All}
+use Rattle.std.proofs.Common.{◌≡◌, ◌≢◌, ℕ, zero, suc, ◌<◌, ◌≤◌, eqb, Bool, true, false, not, ◌||◌, cond, List, [], ◌∷◌, length, get_or, Option, Some, None, Result, Ok, Err, IfSome, IfNone, refl, ap, sym, ◌∙◌, inl, inr, arith, subst}
+use Rattle.std.specs.Prelude.{filter, find, is_some}
 use Rattle.std.specs.List.{AllByRecursion}
+use Rattle.std.specs.Option.{option_map}
 use Rattle.std.specs.List.Sorted.{IsSearchInRange, IsBinarySearchResult, IsNonDecreasingBy}
 use Rattle.std.specs.Ordering.{nat_cmp, ordering_index}
 use Rattle.std.specs.Result.{result_ok}
@@ -11,7 +12,7 @@ use Rattle.std.proofs.lemmas.Bool.Decides.{nat_tests}
 use Rattle.std.proofs.lemmas.List.Elements.{All-head, All-tail}
 use Rattle.sorted_index.specs.declared.pair.Pair.{Pair}
 use Rattle.sorted_index.specs.declared.stored.Stored.{Stored}
-use Rattle.sorted_index.specs.Pairs.{key_of, IsAscending}
+use Rattle.sorted_index.specs.Pairs.{key_of, has_id, IsAscending}
 use Rattle.sorted_index.specs.Marks.{all_in, pairs_in, is_there, IsStoredAt, IsThereAt, IsNowhere}
 use Rattle.sorted_index.proofs.There.{all_there}
 
@@ -95,3 +96,23 @@ key_gone i k d ss up at gone = key_at i k d ss up at.in_range (at.has_id d) ∙ 
 pub key_there : (i k : ℕ) (s : Stored) (ss : List Stored) → IsAscending (all_in ss) → IsThereAt ss i k → s ≡ get_or ss k s → key_of (pairs_in ss) i ≡ Some s.pair.key
 key_there i k s ss up at read =
     key_at i k s ss up at.stored.in_range (at.stored.has_id s) ∙ ap (λ b. cond b None (Some (get_or ss k s).pair.key)) (at.is_there s) ∙ ap (λ (t : Stored). Some t.pair.key) (sym read)
+
+-- an id has a pair exactly if it has a key
+has_key : (i : ℕ) (ps : List Pair) → has_id i ps ≡ is_some (key_of ps i)
+has_key i [] = refl
+has_key i (p ∷ ps) = by_test (eqb i p.id) (has_key i ps)
+  where
+    by_test : (b : Bool) → has_id i ps ≡ is_some (key_of ps i) → (b || has_id i ps) ≡ is_some (option_map (λ q. q.key) (cond b (Some p) (find (λ q. eqb i q.id) ps)))
+    by_test true rest = refl
+    by_test false rest = rest
+
+pub has_none : (i : ℕ) (ps : List Pair) → key_of ps i ≡ None → has_id i ps ≡ false
+has_none i ps none = has_key i ps ∙ ap is_some none
+
+pub has_there : (i k : ℕ) (s : Stored) (ss : List Stored) → IsAscending (all_in ss) → IsThereAt ss i k → has_id i (pairs_in ss) ≡ true
+has_there i k s ss up at = has_key i (pairs_in ss) ∙ ap is_some (key_at i k s ss up at.stored.in_range (at.stored.has_id s) ∙ ap (λ b. cond b None (Some (get_or ss k s).pair.key)) (at.is_there s))
+
+pub has_by_position : (i : ℕ) (ss : List Stored) (o : Option ℕ) → IsAscending (all_in ss) → IfSome o (IsThereAt ss i) → IfNone o (key_of (pairs_in ss) i ≡ None) → is_some o ≡ has_id i (pairs_in ss)
+has_by_position i [] (Some k) up at none = absurd (omega (arith, at.stored.in_range))
+has_by_position i (s ∷ ss) (Some k) up at none = sym (has_there i k s (s ∷ ss) up at)
+has_by_position i ss None up at none = sym (has_none i (pairs_in ss) none)

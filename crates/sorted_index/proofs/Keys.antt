@@ -1,10 +1,11 @@
--- The keys of the ids after a pair is added or removed.
-use Rattle.std.proofs.Common.{◌≡◌, ◌≢◌, ℕ, eqb, Bool, true, false, not, cond, List, [], ◌∷◌, ◌++◌, Option, Some, None, refl, ap, sym, ◌∙◌, arith}
-use Rattle.std.specs.Prelude.{find}
+-- The keys of the ids after a pair is added or removed, and the order of those that are left.
+use Rattle.std.proofs.Common.{◌≡◌, ◌≢◌, ℕ, ◌<◌, eqb, Bool, true, false, not, cond, List, [], ◌∷◌, ◌++◌, Some, None, refl, arith}
+use Rattle.std.specs.Prelude.{find, filter}
+use Rattle.std.specs.List.{AllByRecursion}
 use Rattle.std.specs.Option.{option_map}
 use Rattle.std.proofs.lemmas.Bool.Decides.{nat_tests}
 use Rattle.sorted_index.specs.declared.pair.Pair.{Pair}
-use Rattle.sorted_index.specs.Pairs.{key_of, without, IdsBelow}
+use Rattle.sorted_index.specs.Pairs.{key_of, without, IdsBelow, IsAscending}
 use Rattle.sorted_index.proofs.Found.{other_is, same_is}
 
 pub key_pushed : (ps : List Pair) (p : Pair) → IdsBelow p.id ps → key_of (ps ++ p ∷ []) p.id ≡ Some p.key
@@ -37,3 +38,20 @@ key_kept i j p ps false false is this other rest = rw this rest
 pub key_without_other : (i j : ℕ) (ps : List Pair) → j ≢ i → key_of (without i ps) j ≡ key_of ps j
 key_without_other i j [] other = refl
 key_without_other i j (p ∷ ps) other = key_kept i j p ps (eqb i p.id) (eqb j p.id) refl refl other (key_without_other i j ps other)
+
+-- ---- pairs of which some are left out
+pub all_filter : (P : Pair → Type 0) (test : Pair → Bool) (ps : List Pair) → AllByRecursion P ps → AllByRecursion P (filter test ps)
+all_filter P test [] all = tt
+all_filter P test (p ∷ ps) all = by_test (test p) all.0 (all_filter P test ps all.1)
+  where
+    by_test : (b : Bool) → P p → AllByRecursion P (filter test ps) → AllByRecursion P (cond b (p ∷ filter test ps) (filter test ps))
+    by_test true here rest = (here, rest)
+    by_test false here rest = rest
+
+pub ascending_filter : (test : Pair → Bool) (ps : List Pair) → IsAscending ps → IsAscending (filter test ps)
+ascending_filter test [] up = tt
+ascending_filter test (p ∷ ps) up = by_test (test p) (all_filter (λ q. p.id < q.id) test ps up.0) (ascending_filter test ps up.1)
+  where
+    by_test : (b : Bool) → AllByRecursion (λ q. p.id < q.id) (filter test ps) → IsAscending (filter test ps) → IsAscending (cond b (p ∷ filter test ps) (filter test ps))
+    by_test true here rest = (here, rest)
+    by_test false here rest = rest

@@ -1,11 +1,11 @@
 -- A stored pair that is marked.
-use Rattle.std.proofs.Common.{◌≡◌, ℕ, zero, suc, ◌+◌, ◌<◌, eqb, Bool, true, false, not, cond, List, [], ◌∷◌, length, get_or, set, refl, ap, sym, ◌∙◌, arith, subst}
-use Rattle.std.specs.Prelude.{filter, count_by}
+use Rattle.std.proofs.Common.{◌≡◌, ℕ, zero, suc, ◌+◌, ◌<◌, eqb, Bool, true, false, not, ◌||◌, cond, List, [], ◌∷◌, length, get_or, set, refl, ap, sym, ◌∙◌, arith, subst}
+use Rattle.std.specs.Prelude.{filter}
 use Rattle.std.specs.List.{AllByRecursion}
 use Rattle.std.proofs.lemmas.List.Sums.{sum_by-set}
 use Rattle.sorted_index.specs.declared.pair.Pair.{Pair}
 use Rattle.sorted_index.specs.declared.stored.Stored.{Stored}
-use Rattle.sorted_index.specs.Pairs.{without, IsAscending}
+use Rattle.sorted_index.specs.Pairs.{has_id, without, IsAscending}
 use Rattle.sorted_index.specs.Marks.{all_in, pairs_in, is_there, IsThereAt, IsCounted}
 use Rattle.sorted_index.proofs.There.{all_there, weighs_one, weighs_none}
 use Rattle.sorted_index.proofs.Found.{other_is, same_is, id_above}
@@ -14,6 +14,14 @@ use Rattle.sorted_index.proofs.Found.{other_is, same_is, id_above}
 without_above : (i : ℕ) (ps : List Pair) → AllByRecursion (λ q. i < q.id) ps → without i ps ≡ ps
 without_above i [] all = refl
 without_above i (p ∷ ps) all = rw (other_is i p.id (λ same. omega (arith, all.0))) (ap (λ qs. p ∷ qs) (without_above i ps all.1))
+
+pub without_none : (i : ℕ) (ps : List Pair) → has_id i ps ≡ false → without i ps ≡ ps
+without_none i [] none = refl
+without_none i (p ∷ ps) none = by_test (eqb i p.id) none (without_none i ps)
+  where
+    by_test : (b : Bool) → (b || has_id i ps) ≡ false → (has_id i ps ≡ false → without i ps ≡ ps) → cond (not b) (p ∷ without i ps) (without i ps) ≡ p ∷ ps
+    by_test true out rest = absurd (cc)
+    by_test false out rest = ap (λ qs. p ∷ qs) (rest out)
 
 all_in-set : (k : ℕ) (s d : Stored) (ss : List Stored) → s.pair ≡ (get_or ss k d).pair → all_in (set ss k s) ≡ all_in ss
 all_in-set k s d [] same = refl

@@ -34,6 +34,9 @@ length_there ss =
 pub pairs_in-append : (ss ts : List Stored) → pairs_in (ss ++ ts) ≡ pairs_in ss ++ pairs_in ts
 pairs_in-append ss ts = ap all_in (filter-append is_there ss ts) ∙ map-append (λ s. s.pair) (filter is_there ss) (filter is_there ts)
 
+pub push_pairs : (ss : List Stored) (s : Stored) → s.is_gone ≡ false → pairs_in (ss ++ s ∷ []) ≡ pairs_in ss ++ s.pair ∷ []
+push_pairs ss s there = pairs_in-append ss (s ∷ []) ∙ ap (λ g. pairs_in ss ++ all_in (cond (not g) (s ∷ []) [])) there
+
 -- a mark counts as one
 pub weighs_one : (b : Bool) → b ≡ true → ◌≡◌ {A = ℕ} (cond b 1 0) 1
 weighs_one true is = refl
@@ -42,6 +45,10 @@ weighs_one false is = absurd (cc is)
 pub weighs_none : (b : Bool) → b ≡ false → ◌≡◌ {A = ℕ} (cond b 1 0) 0
 weighs_none true is = absurd (cc is)
 weighs_none false is = refl
+
+pub weighed : (b : Bool) → ◌≡◌ {A = ℕ} (cond b 1 0) 0 → b ≡ false
+weighed true none = absurd (omega arith)
+weighed false none = refl
 
 -- if no pair is marked, all are present
 pub none_marked : (ss : List Stored) → count_by (λ s. s.is_gone) ss ≡ 0 → filter is_there ss ≡ ss

@@ -1,9 +1,9 @@
 -- Stored pairs, some of them marked as removed.
-use Rattle.std.specs.Prelude.{◌≡◌, ◌≢◌, ℕ, ◌+◌, ◌<◌, ◌≤◌, Bool, true, false, not, List, [], ◌∷◌, map, filter, length, count_by, All}
+use Rattle.std.specs.Prelude.{◌≡◌, ◌≢◌, ℕ, ◌+◌, ◌<◌, ◌≤◌, Bool, false, not, List, [], ◌∷◌, map, filter, length, count_by, All}
 use Rattle.std.specs.List.{HoldsAt}
 use Rattle.sorted_index.specs.declared.pair.Pair.{Pair}
 use Rattle.sorted_index.specs.declared.stored.Stored.{Stored}
-use Rattle.sorted_index.specs.Pairs.{IdsBelow, IsAscending}
+use Rattle.sorted_index.specs.Pairs.{IsAscending}
 
 -- the pair is not marked
 abbrev pub is_there : Stored → Bool
@@ -16,6 +16,11 @@ all_in ss = map (λ s. s.pair) ss
 -- the present pairs: those that are not marked
 abbrev pub pairs_in : List Stored → List Pair
 pairs_in ss = all_in (filter is_there ss)
+
+-- the first pair is marked
+abbrev pub starts_gone : List Stored → Bool
+starts_gone [] = false
+starts_gone (s ∷ ss) = s.is_gone
 
 -- the last of s and the pairs after it is marked
 abbrev pub is_last_gone : Stored → List Stored → Bool
@@ -46,12 +51,14 @@ pub record IsCounted (ss : List Stored) (gone : ℕ) : Type 0 where
   pub ascending : IsAscending (all_in ss)
   pub counted : gone ≡ count_by (λ s. s.is_gone) ss
 
--- an id above all present pairs is above all stored pairs
-abbrev pub IsCapped : List Stored → Type 0
-IsCapped ss = (n : ℕ) → IdsBelow n (pairs_in ss) → IdsBelow n (all_in ss)
-
--- the stored pairs are counted and capped, and at most half of them are marked
+-- the stored pairs of an index are counted, the last is present, and at most half of them are marked
 pub record IsTidy (ss : List Stored) (gone : ℕ) : Type 0 where
   pub counted : IsCounted ss gone
-  pub capped : IsCapped ss
+  pub last : ends_gone ss ≡ false
   pub mostly_there : gone + gone ≤ length ss
+
+-- the stored pairs of a queue are counted, and the first and the last are present
+pub record IsTrimmed (ss : List Stored) (gone : ℕ) : Type 0 where
+  pub counted : IsCounted ss gone
+  pub first : starts_gone ss ≡ false
+  pub last : ends_gone ss ≡ false

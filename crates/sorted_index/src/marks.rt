@@ -1,8 +1,7 @@
 //! Drops the marked pairs of an index: at its end, or all of them.
 ghost use Rattle.std.specs.Prelude.{◌≡◌, ◌≤◌, ◌<◌, false};
-ghost use Rattle.std.specs.List.{HoldsAt};
 ghost use Rattle.std.specs.Vec.{vec_len, vec_capacity};
-ghost use Rattle.sorted_index.specs.Marks.{pairs_in, ends_gone, IsCounted, IsCapped, IsTidy};
+ghost use Rattle.sorted_index.specs.Marks.{pairs_in, ends_gone, IsCounted, IsTidy};
 
 use crate::stored::Stored;
 
@@ -21,7 +20,7 @@ fn trim(stored: &mut Vec<Stored>, gone: &mut usize)
     requires { IsCounted stored.old.items gone.old }
     ensures pairs { pairs_in stored.new.items ≡ pairs_in stored.old.items }
     ensures counted { IsCounted stored.new.items gone.new }
-    ensures capped { IsCapped stored.new.items }
+    ensures last { ends_gone stored.new.items ≡ false }
     ensures len { vec_len stored.new ≤ vec_len stored.old }
     ensures capacity { vec_capacity stored.new ≡ vec_capacity stored.old }
 {

@@ -1,7 +1,7 @@
-use Rattle.std.proofs.Common.{rules}
+use Rattle.std.proofs.Common.{arith, rules}
 use Rattle.std.proofs.lemmas.Fn.{filter_same}
 use Rattle.sorted_index.specs.Marks.{is_there}
-use Rattle.sorted_index.proofs.Dropped.{swept_pairs, swept_tidy}
+use Rattle.sorted_index.proofs.Dropped.{swept_pairs, swept_trimmed}
 use Rattle.sorted_index.proofs.marks.sweep.Goals as goal
 
 pub returns-clause-pairs : goal.returns-clause-pairs
@@ -10,4 +10,5 @@ returns-clause-pairs c =
 
 pub returns-clause-tidy : goal.returns-clause-tidy
 returns-clause-tidy c =
-    swept_tidy c.args.stored.now.items c.retain.new.self.items c.args.gone.now (filter_same _ is_there _ (λ x b f k. search rules) _ _ c.retain.ensures.filtered) c.requires
+    let trimmed = swept_trimmed c.args.stored.now.items c.retain.new.self.items c.args.gone.now (filter_same _ is_there _ (λ x b f k. search rules) _ _ c.retain.ensures.filtered) c.requires in
+    record { counted = trimmed.counted; last = trimmed.last; mostly_there = omega arith }

@@ -1,6 +1,6 @@
 use Rattle.std.proofs.Common.{sym, ap, ◌∙◌, arith}
 use Rattle.sorted_index.specs.Marks.{ends_gone}
-use Rattle.sorted_index.proofs.Dropped.{popped, ends_some, capped_by_last}
+use Rattle.sorted_index.proofs.Dropped.{popped, ends_some}
 use Rattle.sorted_index.proofs.marks.trim.Goals as goal
 
 pub overflow_sub-gone : goal.overflow_sub-gone
@@ -21,7 +21,5 @@ loop-stored-preserved c =
       capacity = c.pop.ensures.capacity ∙ c.loop-stored.invariant.capacity;
     }
 
-pub returns-clause-capped : goal.returns-clause-capped
-returns-clause-capped c =
-    let ends = ap ends_gone (sym c.deref.ensures.value) ∙ sym c.is_last_gone.ensures ∙ c.loop-stored-test.false in
-    capped_by_last c.loop-stored.stored.items c.loop-stored.invariant.counted.ascending ends
+pub returns-clause-last : goal.returns-clause-last
+returns-clause-last c = ap ends_gone (sym c.deref.ensures.value) ∙ sym c.is_last_gone.ensures ∙ c.loop-stored-test.false

@@ -5,6 +5,7 @@ use Rattle.std.specs.Prelude.{IsSomeAnd}
 use Rattle.pool_slots.specs.SlotsModel.{is_in, item_at}
 use Rattle.sorted_index.specs.declared.pair.Pair.{Pair}
 use Rattle.sorted_index.specs.Pairs.{IsAscending}
+use Rattle.sorted_index.proofs.Keys.{ascending_filter}
 use Rattle.pool_places.specs.Counts.{IsCounts}
 use Rattle.pool_places.specs.RepInvariant.{IsWithin}
 use Rattle.pool_places.specs.PlacesModel.{records_in, PlacesInvariant}
@@ -16,7 +17,7 @@ use Rattle.pool_places.proofs.SlotLists.{line_left}
 use Rattle.pool_places.proofs.Walks.{key_is_gone}
 use Rattle.pool_places.specs.LastUses.{AreLastUses}
 use Rattle.pool_places.proofs.Bounds.{bound_remove}
-use Rattle.pool_places.proofs.Turned.{Reads, here, key_seen, item_there, follows_known, no_value, sets_requeued, kept_freed, tied_freed, ascending_without}
+use Rattle.pool_places.proofs.Turned.{Reads, here, key_seen, item_there, follows_known, no_value, sets_requeued, kept_freed, tied_freed}
 use Rattle.pool_places.proofs.places.Places.free.Goals as goal
 
 pub remove-key-requires : goal.remove-key-requires
@@ -55,7 +56,7 @@ invariant_of-self g c =
     record {
       well_formed = subst PlacesInvariant (sym is) (well_formed_remove found);
       counted = subst (λ qs. IsCounts c.remove-2.new.self (records_in qs)) (sym is) (counted_remove _ _ found c.self.invariant.counted c.remove-2.ensures);
-      tied = tied_freed rack c.remove.new.self pairs c.remove-key.new.self.pairs c.args.id c.remove-key.result _ reads sets (subst IsAscending (sym c.remove-key.ensures.pairs) (ascending_without c.args.id pairs c.self.invariant.tied.ascending)) c.remove-key.ensures.gone c.remove-key.ensures.others;
+      tied = tied_freed rack c.remove.new.self pairs c.remove-key.new.self.pairs c.args.id c.remove-key.result _ reads sets (subst IsAscending (sym c.remove-key.ensures.pairs) (ascending_filter _ pairs c.self.invariant.tied.ascending)) c.remove-key.ensures.gone c.remove-key.ensures.others;
       line = line_left rack c.remove.new.self c.remove-key.result None c.self.invariant.line sets (c.remove.ensures.queue ∙ ap (λ r. r.queue) c.leave.ensures.queue) refl;
       remembered = subst (λ ks. IsWithin ks c.leave.new.remembered) (sym c.remove.ensures.queue) c.leave.ensures.remembered;
       last_uses = subst (λ qs. AreLastUses c.self.inside.uses (records_in qs)) (sym is) (bound_remove _ _ (objects_of rack pairs) c.self.invariant.last_uses);

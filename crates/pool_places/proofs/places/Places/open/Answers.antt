@@ -18,7 +18,8 @@ use Rattle.pool_places.proofs.Keeping.{record_absent, opened_not_queued}
 use Rattle.pool_places.proofs.SlotLists.{line_apart}
 use Rattle.pool_places.specs.LastUses.{AreLastUses}
 use Rattle.pool_places.proofs.Bounds.{bound_push, opened_not_lent}
-use Rattle.pool_places.proofs.Turned.{pairs_below, kept_opened, tied_opened, ascending_push, key_absent}
+use Rattle.sorted_index.proofs.Pushed.{ascending_push}
+use Rattle.pool_places.proofs.Turned.{pairs_below, kept_opened, tied_opened, key_absent}
 use Rattle.pool_places.proofs.places.Places.open.Goals as goal
 
 pub push-requires-clause-above : goal.push-requires-clause-above

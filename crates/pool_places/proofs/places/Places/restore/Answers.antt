@@ -19,7 +19,8 @@ use Rattle.pool_places.proofs.Outstanding.{push_owed}
 use Rattle.pool_places.proofs.Numbers.{counted_push, small}
 use Rattle.pool_places.proofs.Keeping.{record_absent, entries_free}
 use Rattle.pool_places.proofs.SlotLists.{line_turned, parked_same, queue_kept}
-use Rattle.pool_places.proofs.Turned.{pairs_below, kept_opened, tied_opened, ascending_push, key_absent, sets_queued}
+use Rattle.sorted_index.proofs.Pushed.{ascending_push}
+use Rattle.pool_places.proofs.Turned.{pairs_below, kept_opened, tied_opened, key_absent, sets_queued}
 use Rattle.pool_places.proofs.places.Places.restore.Goals as goal
 
 pub enter-requires-clause-ascends : goal.enter-requires-clause-ascends

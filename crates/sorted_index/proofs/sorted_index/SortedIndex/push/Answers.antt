@@ -1,7 +1,8 @@
 use Rattle.std.proofs.Common.{refl, sym, ap, ◌∙◌, subst}
 use Rattle.sorted_index.specs.Pairs.{key_of, IdsBelow}
 use Rattle.sorted_index.specs.Marks.{pairs_in}
-use Rattle.sorted_index.proofs.Pushed.{push_tidy, push_pairs}
+use Rattle.sorted_index.proofs.There.{push_pairs}
+use Rattle.sorted_index.proofs.Pushed.{push_tidy}
 use Rattle.sorted_index.proofs.Keys.{key_pushed, key_push_other}
 use Rattle.sorted_index.proofs.sorted_index.SortedIndex.push.Goals as goal
 
