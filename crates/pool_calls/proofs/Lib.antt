@@ -1,11 +1,7 @@
 pub mod Answering
 pub mod Coming
 pub mod Destroying
-pub mod Dropped
 pub mod Ending
-pub mod Found
-pub mod Marked
 pub mod Nearing
 pub mod Orders
 pub mod Reading
-pub mod There

@@ -1,4 +1,4 @@
--- The places of both lines, in one order, and the waiters that they are seen as.
+-- The pairs of both queues, in one order, and the waiters that they are seen as.
 use Rattle.std.proofs.Common.{◌≡◌, ℕ, ◌+◌, ◌-◌, ◌<◌, ◌≤◌, eqb, Bool, true, false, not, ◌&&◌, ◌||◌, cond, if◌then◌else◌, List, [], ◌∷◌, ◌++◌, length, take, Some, None, Result, Ok, Err, OnOk, refl, sym, ap, ◌∙◌, subst, arith, append_assoc, append-nil, length-append}
 use Rattle.std.specs.Prelude.{map, min, filter, slice_get, nat_lt}
 use Rattle.std.specs.List.{AllByRecursion}
@@ -8,68 +8,62 @@ use Rattle.std.proofs.lemmas.Bool.{ne_eqb}
 use Rattle.std.proofs.lemmas.Bool.Decides.{nat_tests}
 use Rattle.std.proofs.lemmas.List.{map-append, length-map}
 use Rattle.std.proofs.lemmas.List.Elements.{filter-append}
+use Rattle.std.proofs.lemmas.List.Filters.{length-filter_both}
 use Rattle.std.proofs.lemmas.List.Folds.{list_any-append}
 use Rattle.std.proofs.lemmas.Option.{slice_get_read, slice_get_past}
-use Rattle.pool_journal.specs.Queue.{first_of}
-use Rattle.pool_calls.specs.declared.place.Place.{Place}
-use Rattle.pool_calls.specs.Places.{Line, has_ticket, IsAbove, IsBelow, IsAscending, without as without_place}
+use Rattle.sorted_index.specs.declared.pair.Pair.{Pair}
+use Rattle.sorted_index.specs.Pairs.{Row, first_of, has_id, IdsAbove, IdsBelow, IsAscending, without as without_id}
 use Rattle.pool_calls.specs.Order.{waiter_of, AreFair, IsQueue}
 use Rattle.pool_calls.specs.Waiting.{Waiter, Queue, is_in, without, most_overtaken, overtaken_once, can_pass, may_lend, takes_from_waiters, IsByArrival}
-use Rattle.pool_calls.proofs.Dropped.{ascending_push}
+use Rattle.sorted_index.proofs.Keys.{all_filter, ascending_filter}
+use Rattle.sorted_index.proofs.Pushed.{all_push, ascending_push}
 
 -- ---- parts of a list
-all_back : (P : Place → Type 0) (ps qs : List Place) → AllByRecursion P (ps ++ qs) → AllByRecursion P qs
+pub all_back : (P : Pair → Type 0) (ps qs : List Pair) → AllByRecursion P (ps ++ qs) → AllByRecursion P qs
 all_back P [] qs all = all
 all_back P (p ∷ ps) qs all = all_back P ps qs all.1
 
-all_mid : (P : Place → Type 0) (ps : List Place) (p : Place) (qs : List Place) → AllByRecursion P (ps ++ p ∷ qs) → P p
+all_mid : (P : Pair → Type 0) (ps : List Pair) (p : Pair) (qs : List Pair) → AllByRecursion P (ps ++ p ∷ qs) → P p
 all_mid P ps p qs all = (all_back P ps (p ∷ qs) all).0
 
-all_push : (P : Place → Type 0) (ps : List Place) (p : Place) → AllByRecursion P ps → P p → AllByRecursion P (ps ++ p ∷ [])
-all_push P [] p all here = (here, tt)
-all_push P (q ∷ ps) p all here = (all.0, all_push P ps p all.1 here)
-
-mid_above : (ps : List Place) (p : Place) (qs : List Place) → IsAscending (ps ++ p ∷ qs) → IsAbove p.ticket qs
+mid_above : (ps : List Pair) (p : Pair) (qs : List Pair) → IsAscending (ps ++ p ∷ qs) → IdsAbove p.id qs
 mid_above [] p qs up = up.0
 mid_above (q ∷ ps) p qs up = mid_above ps p qs up.1
 
-mid_below : (ps : List Place) (p : Place) (qs : List Place) → IsAscending (ps ++ p ∷ qs) → IsBelow p.ticket ps
+mid_below : (ps : List Pair) (p : Pair) (qs : List Pair) → IsAscending (ps ++ p ∷ qs) → IdsBelow p.id ps
 mid_below [] p qs up = tt
-mid_below (q ∷ ps) p qs up = (all_mid (λ r. q.ticket < r.ticket) ps p qs up.0, mid_below ps p qs up.1)
+mid_below (q ∷ ps) p qs up = (all_mid (λ r. q.id < r.id) ps p qs up.0, mid_below ps p qs up.1)
 
 -- the youngest signalled ticket is below all that sleep
-pub youngest_above : (ps qs rest : List Place) (p : Place) → ps ≡ rest ++ p ∷ [] → IsAscending (ps ++ qs) → IsAbove p.ticket qs
+pub youngest_above : (ps qs rest : List Pair) (p : Pair) → ps ≡ rest ++ p ∷ [] → IsAscending (ps ++ qs) → IdsAbove p.id qs
 youngest_above ps qs rest p is up = mid_above rest p qs (subst IsAscending (ap (λ xs. xs ++ qs) is ∙ append_assoc rest (p ∷ []) qs) up)
 
 -- the oldest ticket that sleeps is above all that are signalled
-pub oldest_below : (ps qs rest : List Place) (p : Place) → qs ≡ p ∷ rest → IsAscending (ps ++ qs) → IsBelow p.ticket ps
+pub oldest_below : (ps qs rest : List Pair) (p : Pair) → qs ≡ p ∷ rest → IsAscending (ps ++ qs) → IdsBelow p.id ps
 oldest_below ps qs rest p is up = mid_below ps p rest (subst (λ xs. IsAscending (ps ++ xs)) is up)
 
-pub asleep_below : (n : ℕ) (ps qs : List Place) → IsBelow n (ps ++ qs) → IsBelow n qs
-asleep_below n ps qs all = all_back (λ p. p.ticket < n) ps qs all
-
-below_next : (n : ℕ) (ps : List Place) → IsBelow n ps → IsBelow (n + 1) ps
+below_next : (n : ℕ) (ps : List Pair) → IdsBelow n ps → IdsBelow (n + 1) ps
 below_next n [] all = tt
 below_next n (p ∷ ps) all = (omega (arith, all.0), below_next n ps all.1)
 
 -- a ticket above all others is none of them
-pub below_out : (n o : ℕ) (ps : List Place) → IsBelow n ps → is_in n (map (waiter_of o) ps) ≡ false
+pub below_out : (n o : ℕ) (ps : List Pair) → IdsBelow n ps → is_in n (map (waiter_of o) ps) ≡ false
 below_out n o [] all = refl
 below_out n o (p ∷ ps) all =
-    let other : eqb n p.ticket ≡ false = ne_eqb n p.ticket (λ same. grind (arith, all.0, same)) in
+    let other : eqb n p.id ≡ false = ne_eqb n p.id (λ same. grind (arith, all.0, same)) in
     ap (λ b. b || is_in n (map (waiter_of o) ps)) other ∙ below_out n o ps all.1
 
 -- ---- fairness
-befores : (overtakes most : ℕ) (ps : List Place) → AreFair overtakes most ps → AllByRecursion (λ p. p.before ≤ overtakes) ps
+befores : (overtakes most : ℕ) (ps : List Pair) → AreFair overtakes most ps → AllByRecursion (λ p. p.key ≤ overtakes) ps
 befores o m [] fair = tt
 befores o m (p ∷ ps) fair = (fair.0, befores o m ps fair.3)
 
-fair_push : (o m : ℕ) (ps : List Place) (p : Place) → p.before ≡ o → AreFair o m ps → AreFair o m (ps ++ p ∷ [])
+fair_push : (o m : ℕ) (ps : List Pair) (p : Pair) → p.key ≡ o → AreFair o m ps → AreFair o m (ps ++ p ∷ [])
 fair_push o m [] p now fair = (omega (arith, now), omega (arith, now), tt, tt)
 fair_push o m (q ∷ ps) p now fair =
-    (fair.0, fair.1, all_push (λ r. q.before ≤ r.before) ps p fair.2 (omega (arith, now, fair.0)), fair_push o m ps p now fair.3)
+    (fair.0, fair.1, all_push (λ r. q.key ≤ r.key) ps p fair.2 (omega (arith, now, fair.0)), fair_push o m ps p now fair.3)
 
-raise : (o m b : ℕ) (ps : List Place) → o + 1 ≤ b + m → AllByRecursion (λ q. b ≤ q.before) ps → AreFair o m ps → AreFair (o + 1) m ps
+raise : (o m b : ℕ) (ps : List Pair) → o + 1 ≤ b + m → AllByRecursion (λ q. b ≤ q.key) ps → AreFair o m ps → AreFair (o + 1) m ps
 raise o m b [] once later fair = tt
 raise o m b (p ∷ ps) once later fair =
     (omega (arith, fair.0), omega (arith, once, later.0), fair.2, raise o m b ps once later.1 fair.3)
@@ -79,82 +73,82 @@ and_first true b both = refl
 and_first false b both = both
 
 -- the first ticket was overtaken fewer than `most` times, so all of them may be
-pub raised : (o m : ℕ) (ps : List Place) → can_pass o m (map (waiter_of o) ps) ≡ true → AreFair o m ps → AreFair (o + 1) m ps
+pub raised : (o m : ℕ) (ps : List Pair) → can_pass o m (map (waiter_of o) ps) ≡ true → AreFair o m ps → AreFair (o + 1) m ps
 raised o m [] may fair = tt
 raised o m (p ∷ ps) may fair =
-    let first : o - p.before < m = let less = and_first (nat_lt (o - p.before) m) _ may in grind (arith, nat_tests) in
-    let once : o + 1 ≤ p.before + m = omega (arith, first, fair.0) in
-    (omega (arith, fair.0), once, fair.2, raise o m p.before ps once fair.2 fair.3)
+    let first : o - p.key < m = let less = and_first (nat_lt (o - p.key) m) _ may in grind (arith, nat_tests) in
+    let once : o + 1 ≤ p.key + m = omega (arith, first, fair.0) in
+    (omega (arith, fair.0), once, fair.2, raise o m p.key ps once fair.2 fair.3)
 
-pub overtaken_all : (o m : ℕ) (ps : List Place) → AreFair o m ps → map (waiter_of (o + 1)) ps ≡ map overtaken_once (map (waiter_of o) ps)
+pub overtaken_all : (o m : ℕ) (ps : List Pair) → AreFair o m ps → map (waiter_of (o + 1)) ps ≡ map overtaken_once (map (waiter_of o) ps)
 overtaken_all o m [] fair = refl
 overtaken_all o m (p ∷ ps) fair =
-    let more : (o + 1) - p.before ≡ (o - p.before) + 1 = omega (arith, fair.0) in
-    let W : ℕ → Waiter = λ n. record { ticket = p.ticket; overtaken = n } in
+    let more : (o + 1) - p.key ≡ (o - p.key) + 1 = omega (arith, fair.0) in
+    let W : ℕ → Waiter = λ n. record { ticket = p.id; overtaken = n } in
     ap (λ n. W n ∷ map (waiter_of (o + 1)) ps) more ∙ ap (λ ws. overtaken_once (waiter_of o p) ∷ ws) (overtaken_all o m ps fair.3)
 
-pub fair_waiters : (o m : ℕ) (ps : List Place) → AreFair o m ps → AllByRecursion (λ w. w.overtaken ≤ m) (map (waiter_of o) ps)
+pub fair_waiters : (o m : ℕ) (ps : List Pair) → AreFair o m ps → AllByRecursion (λ w. w.overtaken ≤ m) (map (waiter_of o) ps)
 fair_waiters o m [] fair = tt
 fair_waiters o m (p ∷ ps) fair = (omega (arith, fair.0, fair.1), fair_waiters o m ps fair.3)
 
 -- another bound that none of them exceeds, if it is none that the first exceeds
-rebound : (o m n b : ℕ) (ps : List Place) → o ≤ b + n → AllByRecursion (λ q. b ≤ q.before) ps → AreFair o m ps → AreFair o n ps
+rebound : (o m n b : ℕ) (ps : List Pair) → o ≤ b + n → AllByRecursion (λ q. b ≤ q.key) ps → AreFair o m ps → AreFair o n ps
 rebound o m n b [] within later fair = tt
 rebound o m n b (p ∷ ps) within later fair =
     (fair.0, omega (arith, within, later.0), fair.2, rebound o m n b ps within later.1 fair.3)
 
-pub limited : (o m n : ℕ) (ps : List Place) → most_overtaken (map (waiter_of o) ps) ≤ n → AreFair o m ps → AreFair o n ps
+pub limited : (o m n : ℕ) (ps : List Pair) → most_overtaken (map (waiter_of o) ps) ≤ n → AreFair o m ps → AreFair o n ps
 limited o m n [] within fair = tt
 limited o m n (p ∷ ps) within fair =
-    let first : o ≤ p.before + n = omega (arith, within, fair.0) in
-    (fair.0, first, fair.2, rebound o m n p.before ps first fair.2 fair.3)
+    let first : o ≤ p.key + n = omega (arith, within, fair.0) in
+    (fair.0, first, fair.2, rebound o m n p.key ps first fair.2 fair.3)
 
 -- ---- waiters
-arrival_above : (o t : ℕ) (ps : List Place) → IsAbove t ps → AllByRecursion (λ w. t < w.ticket) (map (waiter_of o) ps)
+arrival_above : (o t : ℕ) (ps : List Pair) → IdsAbove t ps → AllByRecursion (λ w. t < w.ticket) (map (waiter_of o) ps)
 arrival_above o t [] all = tt
 arrival_above o t (p ∷ ps) all = (all.0, arrival_above o t ps all.1)
 
-pub by_arrival : (o : ℕ) (ps : List Place) → IsAscending ps → IsByArrival (map (waiter_of o) ps)
+pub by_arrival : (o : ℕ) (ps : List Pair) → IsAscending ps → IsByArrival (map (waiter_of o) ps)
 by_arrival o [] up = tt
-by_arrival o (p ∷ ps) up = (arrival_above o p.ticket ps up.0, by_arrival o ps up.1)
+by_arrival o (p ∷ ps) up = (arrival_above o p.id ps up.0, by_arrival o ps up.1)
 
-is_in-waiters : (t o : ℕ) (ps : List Place) → is_in t (map (waiter_of o) ps) ≡ has_ticket t ps
+is_in-waiters : (t o : ℕ) (ps : List Pair) → is_in t (map (waiter_of o) ps) ≡ has_id t ps
 is_in-waiters t o [] = refl
-is_in-waiters t o (p ∷ ps) = ap (λ b. eqb t p.ticket || b) (is_in-waiters t o ps)
+is_in-waiters t o (p ∷ ps) = ap (λ b. eqb t p.id || b) (is_in-waiters t o ps)
 
-without-waiters : (t o : ℕ) (ps : List Place) → without t (map (waiter_of o) ps) ≡ map (waiter_of o) (without_place t ps)
+without-waiters : (t o : ℕ) (ps : List Pair) → without t (map (waiter_of o) ps) ≡ map (waiter_of o) (without_id t ps)
 without-waiters t o [] = refl
-without-waiters t o (p ∷ ps) = by_test (eqb t p.ticket) (without-waiters t o ps)
+without-waiters t o (p ∷ ps) = by_test (eqb t p.id) (without-waiters t o ps)
   where
-    by_test : (b : Bool) → without t (map (waiter_of o) ps) ≡ map (waiter_of o) (without_place t ps)
-        → cond (not b) (waiter_of o p ∷ without t (map (waiter_of o) ps)) (without t (map (waiter_of o) ps)) ≡ map (waiter_of o) (cond (not b) (p ∷ without_place t ps) (without_place t ps))
+    by_test : (b : Bool) → without t (map (waiter_of o) ps) ≡ map (waiter_of o) (without_id t ps)
+        → cond (not b) (waiter_of o p ∷ without t (map (waiter_of o) ps)) (without t (map (waiter_of o) ps)) ≡ map (waiter_of o) (cond (not b) (p ∷ without_id t ps) (without_id t ps))
     by_test true rest = rest
     by_test false rest = ap (λ ws. waiter_of o p ∷ ws) rest
 
--- the signalled waiters are those of the first line
-pub signalled_waiters : (o : ℕ) (ps qs : List Place) → take (length ps) (map (waiter_of o) (ps ++ qs)) ≡ map (waiter_of o) ps
+-- the signalled waiters are those of the first queue
+pub signalled_waiters : (o : ℕ) (ps qs : List Pair) → take (length ps) (map (waiter_of o) (ps ++ qs)) ≡ map (waiter_of o) ps
 signalled_waiters o ps qs =
     ap (λ ws. take (length ps) ws) (map-append (waiter_of o) ps qs) ∙ ap (λ n. take n (map (waiter_of o) ps ++ map (waiter_of o) qs)) (sym (length-map ps (waiter_of o))) ∙ take-append_seam (map (waiter_of o) ps) (map (waiter_of o) qs)
 
-pub is_signalled_in : (t o : ℕ) (ps qs : List Place) → is_in t (take (length ps) (map (waiter_of o) (ps ++ qs))) ≡ has_ticket t ps
+pub is_signalled_in : (t o : ℕ) (ps qs : List Pair) → is_in t (take (length ps) (map (waiter_of o) (ps ++ qs))) ≡ has_id t ps
 is_signalled_in t o ps qs = ap (is_in t) (signalled_waiters o ps qs) ∙ is_in-waiters t o ps
 
-pub waited : (t o : ℕ) (ps qs : List Place) → is_in t (map (waiter_of o) (ps ++ qs)) ≡ (has_ticket t ps || has_ticket t qs)
-waited t o ps qs = is_in-waiters t o (ps ++ qs) ∙ list_any-append (λ p. eqb t p.ticket) ps qs
+pub waited : (t o : ℕ) (ps qs : List Pair) → is_in t (map (waiter_of o) (ps ++ qs)) ≡ (has_id t ps || has_id t qs)
+waited t o ps qs = is_in-waiters t o (ps ++ qs) ∙ list_any-append (λ p. eqb t p.id) ps qs
 
-left_all : (t : ℕ) (ps qs : List Place) → without_place t (ps ++ qs) ≡ without_place t ps ++ without_place t qs
-left_all t ps qs = filter-append (λ p. not (eqb t p.ticket)) ps qs
+left_all : (t : ℕ) (ps qs : List Pair) → without_id t (ps ++ qs) ≡ without_id t ps ++ without_id t qs
+left_all t ps qs = filter-append (λ p. not (eqb t p.id)) ps qs
 
-pub left : (t o : ℕ) (ps qs rs ss : List Place) → rs ≡ without_place t ps → ss ≡ without_place t qs → map (waiter_of o) (rs ++ ss) ≡ without t (map (waiter_of o) (ps ++ qs))
+pub left : (t o : ℕ) (ps qs rs ss : List Pair) → rs ≡ without_id t ps → ss ≡ without_id t qs → map (waiter_of o) (rs ++ ss) ≡ without t (map (waiter_of o) (ps ++ qs))
 left t o ps qs rs ss r s =
-    ap (λ xs. map (waiter_of o) (xs ++ ss)) r ∙ ap (λ xs. map (waiter_of o) (without_place t ps ++ xs)) s ∙ ap (map (waiter_of o)) (sym (left_all t ps qs)) ∙ sym (without-waiters t o (ps ++ qs))
+    ap (λ xs. map (waiter_of o) (xs ++ ss)) r ∙ ap (λ xs. map (waiter_of o) (without_id t ps ++ xs)) s ∙ ap (map (waiter_of o)) (sym (left_all t ps qs)) ∙ sym (without-waiters t o (ps ++ qs))
 
-pub left_signalled : (t o : ℕ) (ps qs rs : List Place) → rs ≡ without_place t ps → length rs ≡ length (without t (take (length ps) (map (waiter_of o) (ps ++ qs))))
+pub left_signalled : (t o : ℕ) (ps qs rs : List Pair) → rs ≡ without_id t ps → length rs ≡ length (without t (take (length ps) (map (waiter_of o) (ps ++ qs))))
 left_signalled t o ps qs rs r =
-    ap (length {A = Place}) r ∙ sym (length-map (without_place t ps) (waiter_of o)) ∙ ap (length {A = Waiter}) (sym (without-waiters t o ps) ∙ ap (without t) (sym (signalled_waiters o ps qs)))
+    ap (length {A = Pair}) r ∙ sym (length-map (without_id t ps) (waiter_of o)) ∙ ap (length {A = Waiter}) (sym (without-waiters t o ps) ∙ ap (without t) (sym (signalled_waiters o ps qs)))
 
 -- the oldest ticket that sleeps
-pub oldest_ticket : (o : ℕ) (ps qs rest : List Place) (p : Place) → qs ≡ p ∷ rest → Some p.ticket ≡ option_map (λ w. w.ticket) (slice_get (map (waiter_of o) (ps ++ qs)) (length ps))
+pub oldest_ticket : (o : ℕ) (ps qs rest : List Pair) (p : Pair) → qs ≡ p ∷ rest → Some p.id ≡ option_map (λ w. w.ticket) (slice_get (map (waiter_of o) (ps ++ qs)) (length ps))
 oldest_ticket o ps qs rest p is =
     let ws : List Waiter = map (waiter_of o) ps in
     let vs : List Waiter = map (waiter_of o) rest in
@@ -164,103 +158,72 @@ oldest_ticket o ps qs rest p is =
     let read : slice_get (ws ++ waiter_of o p ∷ vs) (length ws) ≡ Some (waiter_of o p) = slice_get_read (ws ++ waiter_of o p ∷ vs) _ (length ws) (waiter_of o p) refl inside (sym (get_or-append_seam ws (waiter_of o p) vs (waiter_of o p))) in
     ap (option_map (λ w. w.ticket)) (sym read ∙ ap (λ n. slice_get (ws ++ waiter_of o p ∷ vs) n) (sym long) ∙ ap (λ xs. slice_get xs (length ps)) (sym all))
 
-pub none_asleep : (o : ℕ) (ps qs : List Place) → qs ≡ [] → None ≡ option_map (λ w. w.ticket) (slice_get (map (waiter_of o) (ps ++ qs)) (length ps))
+pub none_asleep : (o : ℕ) (ps qs : List Pair) → qs ≡ [] → None ≡ option_map (λ w. w.ticket) (slice_get (map (waiter_of o) (ps ++ qs)) (length ps))
 none_asleep o ps qs is =
-    let long : length (map (waiter_of o) (ps ++ qs)) ≡ length ps = length-map (ps ++ qs) (waiter_of o) ∙ ap (λ xs. length (ps ++ xs)) is ∙ ap (length {A = Place}) (append-nil ps) in
+    let long : length (map (waiter_of o) (ps ++ qs)) ≡ length ps = length-map (ps ++ qs) (waiter_of o) ∙ ap (λ xs. length (ps ++ xs)) is ∙ ap (length {A = Pair}) (append-nil ps) in
     ap (option_map (λ w. w.ticket)) (sym (slice_get_past (map (waiter_of o) (ps ++ qs)) (length ps) (omega (arith, long))))
 
 -- ---- the invariant
-all_filter : (P : Place → Type 0) (test : Place → Bool) (ps : List Place) → AllByRecursion P ps → AllByRecursion P (filter test ps)
-all_filter P test [] all = tt
-all_filter P test (p ∷ ps) all = by_test (test p) all.0 (all_filter P test ps all.1)
-  where
-    by_test : (b : Bool) → P p → AllByRecursion P (filter test ps) → AllByRecursion P (cond b (p ∷ filter test ps) (filter test ps))
-    by_test true here rest = (here, rest)
-    by_test false here rest = rest
-
-ascending_filter : (test : Place → Bool) (ps : List Place) → IsAscending ps → IsAscending (filter test ps)
-ascending_filter test [] up = tt
-ascending_filter test (p ∷ ps) up = by_test (test p) (all_filter (λ q. p.ticket < q.ticket) test ps up.0) (ascending_filter test ps up.1)
-  where
-    by_test : (b : Bool) → IsAbove p.ticket (filter test ps) → IsAscending (filter test ps) → IsAscending (cond b (p ∷ filter test ps) (filter test ps))
-    by_test true here rest = (here, rest)
-    by_test false here rest = rest
-
-fair_filter : (o m : ℕ) (test : Place → Bool) (ps : List Place) → AreFair o m ps → AreFair o m (filter test ps)
+fair_filter : (o m : ℕ) (test : Pair → Bool) (ps : List Pair) → AreFair o m ps → AreFair o m (filter test ps)
 fair_filter o m test [] fair = tt
-fair_filter o m test (p ∷ ps) fair = by_test (test p) (all_filter (λ q. p.before ≤ q.before) test ps fair.2) (fair_filter o m test ps fair.3)
+fair_filter o m test (p ∷ ps) fair = by_test (test p) (all_filter (λ q. p.key ≤ q.key) test ps fair.2) (fair_filter o m test ps fair.3)
   where
-    by_test : (b : Bool) → AllByRecursion (λ q. p.before ≤ q.before) (filter test ps) → AreFair o m (filter test ps) → AreFair o m (cond b (p ∷ filter test ps) (filter test ps))
+    by_test : (b : Bool) → AllByRecursion (λ q. p.key ≤ q.key) (filter test ps) → AreFair o m (filter test ps) → AreFair o m (cond b (p ∷ filter test ps) (filter test ps))
     by_test true later rest = (fair.0, fair.1, later, rest)
     by_test false later rest = rest
 
-fewer : (test : Place → Bool) (ps : List Place) → length (filter test ps) ≤ length ps
-fewer test [] = omega arith
-fewer test (p ∷ ps) = by_test (test p) (fewer test ps)
-  where
-    by_test : (b : Bool) → length (filter test ps) ≤ length ps → length (cond b (p ∷ filter test ps) (filter test ps)) ≤ length (p ∷ ps)
-    by_test true rest = omega (arith, rest)
-    by_test false rest = omega (arith, rest)
+fewer : (test : Pair → Bool) (ps : List Pair) → length (filter test ps) ≤ length ps
+fewer test ps = omega (arith, length-filter_both test (λ p. not (test p)) (λ p. refl) ps)
 
-pub left_queue : (t d o m : ℕ) (s a s2 a2 : Line) → IsQueue s a d o m → s2.places ≡ without_place t s.places → a2.places ≡ without_place t a.places → s2.capacity ≡ s.capacity → a2.capacity ≡ a.capacity → IsQueue s2 a2 d o m
+pub left_queue : (t d o m : ℕ) (s a s2 a2 : Row) → IsQueue s a d o m → s2.pairs ≡ without_id t s.pairs → a2.pairs ≡ without_id t a.pairs → s2.capacity ≡ s.capacity → a2.capacity ≡ a.capacity → IsQueue s2 a2 d o m
 left_queue t d o m s a s2 a2 old r q room room2 =
-    let test : Place → Bool = λ p. not (eqb t p.ticket) in
-    let all : List Place = s.places ++ a.places in
-    let is : filter test all ≡ s2.places ++ a2.places = left_all t s.places a.places ∙ ap (λ xs. xs ++ without_place t a.places) (sym r) ∙ ap (λ xs. s2.places ++ xs) (sym q) in
+    let test : Pair → Bool = λ p. not (eqb t p.id) in
+    let all : List Pair = s.pairs ++ a.pairs in
+    let is : filter test all ≡ s2.pairs ++ a2.pairs = left_all t s.pairs a.pairs ∙ ap (λ xs. xs ++ without_id t a.pairs) (sym r) ∙ ap (λ xs. s2.pairs ++ xs) (sym q) in
     record {
       ascending = subst IsAscending is (ascending_filter test all old.ascending);
-      drawn_before = subst (IsBelow d) is (all_filter (λ p. p.ticket < d) test all old.drawn_before);
+      drawn_before = subst (IdsBelow d) is (all_filter (λ p. p.id < d) test all old.drawn_before);
       fair = subst (AreFair o m) is (fair_filter o m test all old.fair);
-      signalled_fit = omega (arith, old.signalled_fit, fewer test all, ap (length {A = Place}) is, room);
-      asleep_fit = omega (arith, old.asleep_fit, fewer test all, ap (length {A = Place}) is, room2);
+      fit = omega (arith, old.fit, fewer test all, ap (length {A = Pair}) is, room, room2);
     }
 
-pub pushed_queue : (d o m : ℕ) (s a a2 : Line) (p : Place) → IsQueue s a d o m → p.ticket ≡ d → p.before ≡ o → a2.places ≡ a.places ++ p ∷ [] → a2.capacity ≡ a.capacity → length (s.places ++ a.places) + 1 ≤ s.capacity → length (s.places ++ a.places) + 1 ≤ a.capacity → IsQueue s a2 (d + 1) o m
-pushed_queue d o m s a a2 p old ticket before is capacity room room2 =
-    let all : List Place = s.places ++ a.places in
-    let grown : s.places ++ a2.places ≡ all ++ p ∷ [] = ap (λ xs. s.places ++ xs) is ∙ sym (append_assoc s.places a.places (p ∷ [])) in
-    let long : length (s.places ++ a2.places) ≡ length all + 1 = ap (length {A = Place}) grown ∙ length-append all (p ∷ []) in
+pub pushed_queue : (d o m : ℕ) (s a a2 : Row) (p : Pair) → IsQueue s a d o m → p.id ≡ d → p.key ≡ o → a2.pairs ≡ a.pairs ++ p ∷ [] → a2.capacity ≡ a.capacity → length (s.pairs ++ a.pairs) + 1 ≤ min s.capacity a.capacity → IsQueue s a2 (d + 1) o m
+pushed_queue d o m s a a2 p old ticket before is capacity room =
+    let all : List Pair = s.pairs ++ a.pairs in
+    let grown : s.pairs ++ a2.pairs ≡ all ++ p ∷ [] = ap (λ xs. s.pairs ++ xs) is ∙ sym (append_assoc s.pairs a.pairs (p ∷ [])) in
+    let long : length (s.pairs ++ a2.pairs) ≡ length all + 1 = ap (length {A = Pair}) grown ∙ length-append all (p ∷ []) in
     record {
-      ascending = subst IsAscending (sym grown) (ascending_push all p old.ascending (subst (λ (n : ℕ). IsBelow n all) (sym ticket) old.drawn_before));
-      drawn_before = subst (IsBelow (d + 1)) (sym grown) (all_push (λ q. q.ticket < d + 1) all p (below_next d all old.drawn_before) (omega (arith, ticket)));
+      ascending = subst IsAscending (sym grown) (ascending_push all p old.ascending (subst (λ (n : ℕ). IdsBelow n all) (sym ticket) old.drawn_before));
+      drawn_before = subst (IdsBelow (d + 1)) (sym grown) (all_push (λ q. q.id < d + 1) all p (below_next d all old.drawn_before) (omega (arith, ticket)));
       fair = subst (AreFair o m) (sym grown) (fair_push o m all p before old.fair);
-      signalled_fit = omega (arith, long, room);
-      asleep_fit = omega (arith, long, room2, capacity);
+      fit = omega (arith, long, room, capacity);
     }
 
-pub raised_queue : (d o m : ℕ) (s a : Line) → IsQueue s a d o m → can_pass o m (map (waiter_of o) (s.places ++ a.places)) ≡ true → IsQueue s a d (o + 1) m
+pub raised_queue : (d o m : ℕ) (s a : Row) → IsQueue s a d o m → can_pass o m (map (waiter_of o) (s.pairs ++ a.pairs)) ≡ true → IsQueue s a d (o + 1) m
 raised_queue d o m s a old may = record {
   ascending = old.ascending;
   drawn_before = old.drawn_before;
-  fair = raised o m (s.places ++ a.places) may old.fair;
-  signalled_fit = old.signalled_fit;
-  asleep_fit = old.asleep_fit;
+  fair = raised o m (s.pairs ++ a.pairs) may old.fair;
+  fit = old.fit;
 }
 
--- another bound, for lines that are the same
-pub limited_queue : (d o m n : ℕ) (s a s' a' : Line) → s' ≡ s → a' ≡ a → IsQueue s a d o m → most_overtaken (map (waiter_of o) (s.places ++ a.places)) ≤ n → IsQueue s' a' d o n
-limited_queue d o m n s a s' a' signalled asleep old within =
-    let S : Line → Type 0 = λ l. IsQueue l a' d o n in
-    let A : Line → Type 0 = λ l. IsQueue s l d o n in
-    subst S (sym signalled) (subst A (sym asleep) (record {
-      ascending = old.ascending;
-      drawn_before = old.drawn_before;
-      fair = limited o m n (s.places ++ a.places) within old.fair;
-      signalled_fit = old.signalled_fit;
-      asleep_fit = old.asleep_fit;
-    }))
+-- another bound
+pub limited_queue : (d o m n : ℕ) (s a : Row) → IsQueue s a d o m → most_overtaken (map (waiter_of o) (s.pairs ++ a.pairs)) ≤ n → IsQueue s a d o n
+limited_queue d o m n s a old within = record {
+  ascending = old.ascending;
+  drawn_before = old.drawn_before;
+  fair = limited o m n (s.pairs ++ a.pairs) within old.fair;
+  fit = old.fit;
+}
 
 -- the oldest ticket was overtaken most often
-pub most_of_none : (o : ℕ) (ps : List Place) → first_of ps ≡ None → most_overtaken (map (waiter_of o) ps) ≡ 0
+pub most_of_none : (o : ℕ) (ps : List Pair) → first_of ps ≡ None → most_overtaken (map (waiter_of o) ps) ≡ 0
 most_of_none o [] none = refl
 most_of_none o (p ∷ ps) none = absurd (cc)
 
-pub most_of_first : (o : ℕ) (ps : List Place) (first : Place) → first_of ps ≡ Some first → most_overtaken (map (waiter_of o) ps) ≡ o - first.before
+pub most_of_first : (o : ℕ) (ps : List Pair) (first : Pair) → first_of ps ≡ Some first → most_overtaken (map (waiter_of o) ps) ≡ o - first.key
 most_of_first o [] first is = absurd (cc)
-most_of_first o (p ∷ ps) first is = ap (λ q. o - q.before) (some_same p first is)
-  where
-    some_same : (a b : Place) → Some a ≡ Some b → a ≡ b
-    some_same a b same = cc
+most_of_first o (p ∷ ps) first is = let same : p ≡ first = cc in ap (λ q. o - q.key) same
 
 -- where no more are available than tickets wait, a newcomer may look only as it may overtake the first
 pub may_pass : (available : ℕ) (q : Queue) → may_lend available q ≡ true → available ≤ length q.waiting → can_pass q.overtakes q.most q.waiting ≡ true
@@ -275,16 +238,16 @@ lent_waiters available q ws is some few =
     let takes : takes_from_waiters available q ≡ true = grind (arith, nat_tests) in
     is ∙ ap (λ b. if b then map overtaken_once q.waiting else q.waiting) (sym takes)
 
-pub left_fewer : (t : ℕ) (ps qs rs ss : List Place) → rs ≡ without_place t ps → ss ≡ without_place t qs → length (rs ++ ss) ≤ length (ps ++ qs)
+pub left_fewer : (t : ℕ) (ps qs rs ss : List Pair) → rs ≡ without_id t ps → ss ≡ without_id t qs → length (rs ++ ss) ≤ length (ps ++ qs)
 left_fewer t ps qs rs ss r s =
-    let test : Place → Bool = λ p. not (eqb t p.ticket) in
-    omega (arith, length-append rs ss, length-append ps qs, fewer test ps, fewer test qs, ap (length {A = Place}) r, ap (length {A = Place}) s)
+    let test : Pair → Bool = λ p. not (eqb t p.id) in
+    omega (arith, length-append rs ss, length-append ps qs, fewer test ps, fewer test qs, ap (length {A = Pair}) r, ap (length {A = Pair}) s)
 
--- both lines have memory for so many more
-pub reserved : {A E : Type 0} (r : Result A E) (count all o : ℕ) (s a s2 a2 : Line) → all ≡ length (map (waiter_of o) (s.places ++ a.places)) + count → s2.places ≡ s.places → a2.places ≡ a.places → all ≤ s2.capacity → OnOk r (all ≤ a2.capacity) → OnOk r (count ≤ min s2.capacity a2.capacity - length (s2.places ++ a2.places))
+-- both queues have memory for so many more
+pub reserved : {A E : Type 0} (r : Result A E) (count all o : ℕ) (s a s2 a2 : Row) → all ≡ length (map (waiter_of o) (s.pairs ++ a.pairs)) + count → s2.pairs ≡ s.pairs → a2.pairs ≡ a.pairs → all ≤ s2.capacity → OnOk r (all ≤ a2.capacity) → OnOk r (count ≤ min s2.capacity a2.capacity - length (s2.pairs ++ a2.pairs))
 reserved (Ok x) count all o s a s2 a2 is s_same a_same s_room a_room =
-    let long : length (s2.places ++ a2.places) ≡ length (s.places ++ a.places) =
-    ap (λ ps. length (ps ++ a2.places)) s_same ∙ ap (λ qs. length (s.places ++ qs)) a_same
+    let long : length (s2.pairs ++ a2.pairs) ≡ length (s.pairs ++ a.pairs) =
+    ap (λ ps. length (ps ++ a2.pairs)) s_same ∙ ap (λ qs. length (s.pairs ++ qs)) a_same
     in
-    omega (arith, is, long, length-map (s.places ++ a.places) (waiter_of o), s_room, a_room)
+    omega (arith, is, long, length-map (s.pairs ++ a.pairs) (waiter_of o), s_room, a_room)
 reserved (Err e) count all o s a s2 a2 is s_same a_same s_room a_room = tt

@@ -1,8 +1,6 @@
 pub mod Left
-pub mod Lines
 pub mod Operations
 pub mod Order
-pub mod Places
 pub mod Progress
 pub mod Rules
 pub mod Runs

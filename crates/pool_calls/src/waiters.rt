@@ -2,12 +2,11 @@
 ghost use Rattle.std.specs.Prelude.{◌≡◌, ◌≤◌, ◌<◌, ◌+◌, ◌-◌, ◌^◌, ◌++◌, ◌∷◌, [], true, false, max, min, if◌then◌else◌, map, length, slice_get, IfOk, IfSome, IfNone, OnOk, OnErr, IsOk};
 ghost use Rattle.std.specs.Option.{option_map};
 ghost use Rattle.std.specs.List.{AllByRecursion};
-ghost use Rattle.pool_journal.specs.Queue.{first_of};
+ghost use Rattle.sorted_index.specs.Pairs.{first_of};
 ghost use Rattle.pool_calls.specs.Waiting as spec;
 ghost use Rattle.pool_calls.specs.Waiting.{is_in, without, signalled_of, newest, most_overtaken, overtaken_once, takes_from_waiters, IsByArrival, IsFair, IsSettled, Signals};
 
-use crate::line::Line;
-use crate::place::Place;
+use sorted_index::{Pair, SortedQueue};
 use std::alloc::{AllocError, Global};
 use std::marker::Model;
 
@@ -24,8 +23,9 @@ const UNLIMITED: u64 = 2_147_483_647;
 /// over all calls, and `wait` allocates nothing within the memory that was reserved.
 #[derive(Drop)]
 pub struct Waiters {
-    signalled: Line,
-    asleep: Line,
+    // The tickets, each with the number of overtakes before it.
+    signalled: SortedQueue,
+    asleep: SortedQueue,
     // The number of tickets that were drawn, which is the next one.
     drawn: u64,
     overtakes: u64,
@@ -41,9 +41,9 @@ impl Model for Waiters {
     ghost use Rattle.pool_calls.specs.Order.{waiter_of, IsQueue};
 
     ghost view = { λ a. record {
-      waiting = map (waiter_of a.overtakes) (a.signalled.places ++ a.asleep.places);
-      signalled = length a.signalled.places;
-      spare = min a.signalled.capacity a.asleep.capacity - length (a.signalled.places ++ a.asleep.places);
+      waiting = map (waiter_of a.overtakes) (a.signalled.pairs ++ a.asleep.pairs);
+      signalled = length a.signalled.pairs;
+      spare = min a.signalled.capacity a.asleep.capacity - length (a.signalled.pairs ++ a.asleep.pairs);
       drawn = a.drawn;
       overtakes = a.overtakes;
       most = a.max_overtakes;
@@ -52,14 +52,12 @@ impl Model for Waiters {
     ghost invariant = { λ a. IsQueue a.signalled a.asleep a.drawn a.overtakes a.max_overtakes };
 }
 
-// The first of the places of two lines.
-fn oldest(signalled: &mut Line, asleep: &mut Line) -> Option<Place>
-    ensures first { result ≡ first_of (signalled.old.places ++ asleep.old.places) }
-    ensures signalled { signalled.new ≡ signalled.old }
-    ensures asleep { asleep.new ≡ asleep.old }
+// The first pair of two queues.
+fn oldest(signalled: &SortedQueue, asleep: &SortedQueue) -> Option<Pair>
+    ensures { result ≡ first_of (signalled.now.pairs ++ asleep.now.pairs) }
 {
     match signalled.first() {
-        Some(place) => Some(place),
+        Some(pair) => Some(pair),
         None => asleep.first(),
     }
 }
@@ -72,8 +70,8 @@ impl Waiters {
         ensures most { result.most ≡ max_overtakes }
     {
         Waiters {
-            signalled: Line::new(alloc),
-            asleep: Line::new(alloc),
+            signalled: SortedQueue::new(alloc),
+            asleep: SortedQueue::new(alloc),
             drawn: 0,
             overtakes: 0,
             max_overtakes,
@@ -138,10 +136,7 @@ impl Waiters {
         let next = self.drawn.checked_add(1).ok_or(AllocError)?;
         self.reserve(1)?;
         let ticket = self.drawn;
-        self.asleep.push_back(Place {
-            ticket,
-            before: self.overtakes,
-        });
+        self.asleep.push_back(ticket, self.overtakes as usize);
         self.drawn = next;
         Ok(ticket)
     }
@@ -170,7 +165,7 @@ impl Waiters {
         ensures { self.new ≡ record self.old { signalled = self.old.signalled - 1 } }
     {
         match self.signalled.pop_back() {
-            Some(place) => self.asleep.push_front(place),
+            Some(pair) => self.asleep.push_front(pair.id, pair.key),
             None => unreachable!(),
         }
     }
@@ -193,9 +188,9 @@ impl Waiters {
         ensures none { IfNone result ((self.new ≡ self.old)
             × (self.old.signalled ≡ length self.old.waiting)) }
     {
-        let place = self.asleep.pop_front()?;
-        self.signalled.push_back(place);
-        Some(place.ticket)
+        let pair = self.asleep.pop_front()?;
+        self.signalled.push_back(pair.id, pair.key);
+        Some(pair.id)
     }
 
     /// Returns the next ticket to wake, while `available` idle objects and free places are there: the oldest that
@@ -226,10 +221,10 @@ impl Waiters {
         if (self.len() as u64) < available {
             return true;
         }
-        match oldest(&mut self.signalled, &mut self.asleep) {
+        match oldest(&self.signalled, &self.asleep) {
             None => true,
-            Some(place) => {
-                self.overtakes - place.before < self.max_overtakes && self.overtakes < u64::MAX
+            Some(pair) => {
+                self.overtakes - (pair.key as u64) < self.max_overtakes && self.overtakes < u64::MAX
             }
         }
     }
@@ -263,9 +258,9 @@ impl Waiters {
         ensures bound { result ≡ max max_overtakes (most_overtaken self.old.waiting) }
         ensures rest { self.new ≡ record self.old { most = result } }
     {
-        let overtaken = match oldest(&mut self.signalled, &mut self.asleep) {
+        let overtaken = match oldest(&self.signalled, &self.asleep) {
             None => 0,
-            Some(place) => self.overtakes - place.before,
+            Some(pair) => self.overtakes - pair.key as u64,
         };
         self.max_overtakes = max_overtakes.max(overtaken);
         self.max_overtakes
