@@ -1,3 +1,4 @@
+pub mod AtOnce
 pub mod Answering
 pub mod Coming
 pub mod Destroying

@@ -1,3 +1,4 @@
+pub mod AtOnce
 pub mod Left
 pub mod Operations
 pub mod Order

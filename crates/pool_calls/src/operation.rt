@@ -10,6 +10,7 @@ ghost use Rattle.pool_calls.specs.Tallies.{tally_after};
 ghost use Rattle.pool_calls.specs.Turns.{Turn, step_of, asks_make, asks_room, asks_wait, is_done, is_full, IsFirst};
 
 mod after;
+mod at_once;
 mod words;
 
 use crate::action::{Action, End, Event};

@@ -8,7 +8,6 @@ ghost use Rattle.pool_core.specs.Reply.{has_room, reply_from};
 ghost use Rattle.pool_journal.specs.Base.{closed_from, records_from};
 ghost use Rattle.pool_journal.specs.declared.answer.Answer.TheVariants as answers;
 ghost use Rattle.pool_journal.specs.declared.input.Input.TheVariants as inputs;
-ghost use Rattle.pool_journal.specs.declared.input.Outcome.TheVariants as outcomes;
 ghost use Rattle.pool_driver.specs.Driving.{GoesFrom, IsAvailable, TakesFirst, is_low_in, may_come_in, until_of};
 ghost use Rattle.pool_driver.specs.Overtaking.{CountsOvertakes, is_newcomer};
 
@@ -17,41 +16,7 @@ use crate::effects::Effects;
 use crate::pool::DrivenPool;
 use crate::stepping::tell_answer;
 use pool_calls::Action;
-use pool_journal::{Answer, Input, Outcome};
-
-// Whether a borrow reports this object as good.
-#[inline(always)]
-fn is_ready(call: &Call, taken: u64) -> bool
-    ensures { result ≡ true
-        → step_at call.now.operation ≡ Some (inputs.Ready taken outcomes.Good) }
-{
-    match call.operation.action() {
-        Action::Step(
-            Input::Ready {
-                id,
-                outcome: Outcome::Good,
-            },
-        ) => id == taken,
-        _ => false,
-    }
-}
-
-// Whether a return reports this object as good.
-#[inline(always)]
-fn is_back(call: &Call, checked: u64) -> bool
-    ensures { result ≡ true
-        → step_at call.now.operation ≡ Some (inputs.Park checked outcomes.Good) }
-{
-    match call.operation.action() {
-        Action::Step(
-            Input::Park {
-                id,
-                outcome: Outcome::Good,
-            },
-        ) => id == checked,
-        _ => false,
-    }
-}
+use pool_journal::{Answer, Input};
 
 impl DrivenPool {
     /// Returns whether the queue of idle objects takes one more.
@@ -95,17 +60,15 @@ impl DrivenPool {
         ensures unchanged { result ≡ false → (self.new ≡ self.old) × (call.new ≡ call.old) }
         ensures longer { call.new.longer ≡ call.old.longer }
     {
-        let mut lent = *call;
-        tell_answer(&mut lent, Answer::Take(id), None);
-        if !is_ready(&lent, id) {
+        let Some(lent) = call.operation.lent_at_once(id) else {
             return false;
-        }
+        };
         let Ok(token) = self.core.lend_idle(caller, at, began, id) else {
             return false;
         };
-        self.note_found(&mut lent, available);
-        tell_answer(&mut lent, Answer::Lent, Some(token));
-        *call = lent;
+        self.note_found(call, available);
+        call.operation = lent;
+        call.token = token;
         true
     }
 
@@ -186,14 +149,14 @@ impl DrivenPool {
         ensures unchanged { result ≡ false → (self.new ≡ self.old) × (call.new ≡ call.old) }
         ensures longer { call.new.longer ≡ call.old.longer }
     {
-        let mut parked = *call;
-        tell_answer(&mut parked, Answer::Check, None);
-        if !is_back(&parked, id) || !self.has_idle_room() {
+        let Some(parked) = call.operation.parked_at_once(id) else {
+            return false;
+        };
+        if !self.has_idle_room() {
             return false;
         }
-        self.core.park_lent(caller, at, id, parked.token);
-        tell_answer(&mut parked, Answer::Parked, None);
-        *call = parked;
+        self.core.park_lent(caller, at, id, call.token);
+        call.operation = parked;
         true
     }
 

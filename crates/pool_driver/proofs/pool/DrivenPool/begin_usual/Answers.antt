@@ -1,4 +1,4 @@
-use Rattle.std.proofs.Common.{◌≡◌, ℕ, true, Option, Some, max, sym, subst}
+use Rattle.std.proofs.Common.{◌≡◌, ℕ, true, Option, max, sym, subst}
 use Rattle.pool_journal.specs.declared.input.Input.{Input}
 use Rattle.pool_calls.specs.Operations.{step_at}
 use Rattle.pool_driver.specs.Driving.{DrivenModel, GoesFrom}

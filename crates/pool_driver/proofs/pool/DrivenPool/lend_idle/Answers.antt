@@ -1,5 +1,4 @@
-use Rattle.std.proofs.Common.{◌≡◌, ℕ, true, Some, None, refl, sym, ap, ◌∙◌, subst}
-use Rattle.std.specs.Option.{is_some}
+use Rattle.std.proofs.Common.{◌≡◌, ℕ, true, Some, None, refl, sym, subst}
 use Rattle.pool_journal.specs.declared.answer.Answer.TheVariants as answers
 use Rattle.pool_journal.specs.declared.input.Input.{Input}
 use Rattle.pool_journal.specs.declared.input.Input.TheVariants as inputs
@@ -27,21 +26,20 @@ returns-clause-moves c is =
     let token = c.in-Ok.token in
     let note = c.note_found.ensures in
     let new = c.note_found.new.self in
-    let told = c.tell_answer.ensures in
-    let lent = c.tell_answer-2.ensures in
+    let goes = c.in-Some.ensures in
     let mid : DrivenModel = record here { core = lends.mid } in
     let noted : DrivenModel = record new { core = lends.mid } in
-    let found : Call = record c.tell_answer.new.call { token = token } in
-    let served : Call = record c.note_found.new.call { token = token } in
-    let last = c.tell_answer-2.new.call in
+    let found : Call = record call { operation = goes.between; token = token } in
+    let served : Call = record c.note_found.new.call { operation = goes.between; token = token } in
+    let last : Call = record c.note_found.new.call { operation = c.in-Some.lent; token = token } in
     let C : CoreModel ℕ → Type 0 = λ m. Answered c.args.caller c.args.at ready None lends.mid m answers.Lent None in
     let taken = takes_uncut c.args.caller c.args.at input None here.drops here.core lends.mid (answers.Take c.args.id) (Some token) lends.taken in
     let readied = takes_uncut c.args.caller c.args.at ready None noted.drops lends.mid new.core answers.Lent None (subst C (sym note.accepts.core) lends.lent) in
-    let asked : step_at served.operation ≡ Some ready = ap (λ o. step_at o) note.operation ∙ c.is_ready.ensures c.if-not-is_ready.false in
-    let first = takes_step input c.args.caller c.args.at (answers.Take c.args.id) (Some token) here mid call found c.requires.asked taken refl (told.comes (ap (λ s. is_some s) c.requires.asked)) refl refl refl told.ticket in
-    let rest : Accepts reports.GoOn mid noted found served = record { core = refl; rest = record { settings = refl; plan = note.accepts.rest.plan; drops = note.accepts.rest.drops }; token = refl; comes = note.accepts.comes; queue = note.accepts.queue } in
+    let asked : step_at served.operation ≡ Some ready = goes.asks in
+    let first = takes_step input c.args.caller c.args.at (answers.Take c.args.id) (Some token) here mid call found c.requires.asked taken refl goes.begins.comes refl refl refl refl in
+    let rest : Accepts reports.GoOn mid noted found served = record { core = refl; rest = record { settings = refl; plan = note.accepts.rest.plan; drops = note.accepts.rest.drops }; token = refl; comes = λ turns come. come; queue = note.accepts.queue } in
     let then = takes_then input c.args.caller c.args.at true here mid noted call found served first rest in
-    let second = moves_step c.args.caller c.args.at noted new served last ready answers.Lent None asked readied lent.token (lent.comes (ap (λ s. is_some s) asked)) refl refl refl lent.ticket in
+    let second = moves_step c.args.caller c.args.at noted new served last ready answers.Lent None asked readied refl goes.ends.comes refl refl refl refl in
     let P : DrivenModel → Type 0 = λ d. TakesFirst input true c.args.caller c.args.at d new call last in
     subst P c.self.view_is (takes_on input c.args.caller c.args.at true here noted new call served last refl then second)
 
@@ -56,21 +54,20 @@ returns-clause-overtakes c is =
     let token = c.in-Ok.token in
     let note = c.note_found.ensures in
     let new = c.note_found.new.self in
-    let told = c.tell_answer.ensures in
-    let lent = c.tell_answer-2.ensures in
+    let goes = c.in-Some.ensures in
     let mid : DrivenModel = record here { core = lends.mid } in
     let noted : DrivenModel = record new { core = lends.mid } in
-    let found : Call = record c.tell_answer.new.call { token = token } in
-    let served : Call = record c.note_found.new.call { token = token } in
-    let last = c.tell_answer-2.new.call in
+    let found : Call = record call { operation = goes.between; token = token } in
+    let served : Call = record c.note_found.new.call { operation = goes.between; token = token } in
+    let last : Call = record c.note_found.new.call { operation = c.in-Some.lent; token = token } in
     let C : CoreModel ℕ → Type 0 = λ m. Answered c.args.caller c.args.at ready None lends.mid m answers.Lent None in
     let taken = takes_uncut c.args.caller c.args.at input None here.drops here.core lends.mid (answers.Take c.args.id) (Some token) lends.taken in
     let readied = takes_uncut c.args.caller c.args.at ready None noted.drops lends.mid new.core answers.Lent None (subst C (sym note.accepts.core) lends.lent) in
-    let asked : step_at served.operation ≡ Some ready = ap (λ o. step_at o) note.operation ∙ c.is_ready.ensures c.if-not-is_ready.false in
+    let asked : step_at served.operation ≡ Some ready = goes.asks in
     let n = c.args.available in
     let there = subst (λ (d : DrivenModel). IsAvailable d n) (sym c.self.view_is) c.requires.available in
     let may = λ (newcomer : is_newcomer call ≡ true). subst (λ (d : DrivenModel). may_come_in n d ≡ true) (sym c.self.view_is) (c.requires.may newcomer) in
-    let first = passes_asked c.args.caller c.args.at c.args.began n (answers.Take c.args.id) (Some token) here mid noted call found served c.requires.asked there may taken refl refl told.ticket told.turn refl note.accepts.rest.drops note.served (λ has none. draws_none None served.ticket (is_waiting served.operation ≡ true) note.ticket has refl) note.others in
-    let second = passes_other c.args.caller c.args.at ready answers.Lent None noted new served last refl asked readied refl lent.turn lent.ticket refl in
+    let first = passes_asked c.args.caller c.args.at c.args.began n (answers.Take c.args.id) (Some token) here mid noted call found served c.requires.asked there may taken refl refl refl refl refl note.accepts.rest.drops note.served (λ has none. draws_none None served.ticket (is_waiting served.operation ≡ true) note.ticket has refl) note.others in
+    let second = passes_other c.args.caller c.args.at ready answers.Lent None noted new served last refl asked readied refl refl refl refl in
     let P : DrivenModel → Type 0 = λ d. CountsOvertakes c.args.caller c.args.at d new call last in
     subst P c.self.view_is (counts_on c.args.caller c.args.at here noted new call served last first second)

@@ -1,5 +1,4 @@
-use Rattle.std.proofs.Common.{◌≡◌, true, Some, None, refl, ap, subst}
-use Rattle.std.specs.Option.{is_some}
+use Rattle.std.proofs.Common.{◌≡◌, true, Some, None, refl, subst}
 use Rattle.pool_journal.specs.declared.answer.Answer.TheVariants as answers
 use Rattle.pool_journal.specs.declared.input.Input.{Input}
 use Rattle.pool_journal.specs.declared.input.Input.TheVariants as inputs
@@ -7,6 +6,7 @@ use Rattle.pool_journal.specs.declared.input.Outcome.TheVariants as outcomes
 use Rattle.pool_calls.specs.Operations.{step_at}
 use Rattle.pool_driver.specs.Driving.{DrivenModel, TakesFirst}
 use Rattle.pool_driver.specs.Overtaking.{CountsOvertakes}
+use Rattle.pool_driver.specs.declared.call.Call.{Call}
 use Rattle.pool_driver.proofs.Moving.{moves_step, takes_on, takes_step}
 use Rattle.pool_driver.proofs.Overtaking.{counts_on, passes_other}
 use Rattle.pool_driver.proofs.Running.{takes_uncut}
@@ -20,17 +20,16 @@ returns-clause-moves c is =
     let here : DrivenModel = record { core = inside.core; queue = inside.waiters; plan = inside.plan; drops = inside.drops; holds_back = inside.holds_back; last = inside.last } in
     let call = c.args.call.now in
     let parks = c.park_lent.ensures.parked in
-    let told = c.tell_answer.ensures in
-    let parked = c.tell_answer-2.ensures in
-    let found = c.tell_answer.new.call in
-    let last = c.tell_answer-2.new.call in
+    let goes = c.in-Some.ensures in
+    let found : Call = record call { operation = goes.between } in
+    let last : Call = record call { operation = c.in-Some.parked } in
     let mid : DrivenModel = record here { core = parks.mid } in
     let new : DrivenModel = record here { core = c.park_lent.new.self } in
     let checked = takes_uncut c.args.caller c.args.at input None here.drops here.core parks.mid answers.Check None parks.checked in
     let back = takes_uncut c.args.caller c.args.at park (Some found.token) here.drops parks.mid new.core answers.Parked None parks.parked in
-    let asked : step_at found.operation ≡ Some park = c.is_back.ensures c.if-not-is_back.false in
-    let first = takes_step input c.args.caller c.args.at answers.Check None here mid call found c.requires.asked checked told.token (told.comes (ap (λ s. is_some s) c.requires.asked)) refl refl refl told.ticket in
-    let second = moves_step c.args.caller c.args.at mid new found last park answers.Parked None asked back parked.token (parked.comes (ap (λ s. is_some s) asked)) refl refl refl parked.ticket in
+    let asked : step_at found.operation ≡ Some park = goes.asks in
+    let first = takes_step input c.args.caller c.args.at answers.Check None here mid call found c.requires.asked checked refl goes.begins.comes refl refl refl refl in
+    let second = moves_step c.args.caller c.args.at mid new found last park answers.Parked None asked back refl goes.ends.comes refl refl refl refl in
     let P : DrivenModel → Type 0 = λ d. TakesFirst input true c.args.caller c.args.at d new call last in
     subst P c.self.view_is (takes_on input c.args.caller c.args.at true here mid new call found last refl first second)
 
@@ -42,16 +41,15 @@ returns-clause-overtakes c is =
     let here : DrivenModel = record { core = inside.core; queue = inside.waiters; plan = inside.plan; drops = inside.drops; holds_back = inside.holds_back; last = inside.last } in
     let call = c.args.call.now in
     let parks = c.park_lent.ensures.parked in
-    let told = c.tell_answer.ensures in
-    let parked = c.tell_answer-2.ensures in
-    let found = c.tell_answer.new.call in
-    let last = c.tell_answer-2.new.call in
+    let goes = c.in-Some.ensures in
+    let found : Call = record call { operation = goes.between } in
+    let last : Call = record call { operation = c.in-Some.parked } in
     let mid : DrivenModel = record here { core = parks.mid } in
     let new : DrivenModel = record here { core = c.park_lent.new.self } in
     let checked = takes_uncut c.args.caller c.args.at input None here.drops here.core parks.mid answers.Check None parks.checked in
     let back = takes_uncut c.args.caller c.args.at park (Some found.token) here.drops parks.mid new.core answers.Parked None parks.parked in
-    let asked : step_at found.operation ≡ Some park = c.is_back.ensures c.if-not-is_back.false in
-    let first = passes_other c.args.caller c.args.at input answers.Check None here mid call found refl c.requires.asked checked refl told.turn told.ticket refl in
-    let second = passes_other c.args.caller c.args.at park answers.Parked None mid new found last refl asked back refl parked.turn parked.ticket refl in
+    let asked : step_at found.operation ≡ Some park = goes.asks in
+    let first = passes_other c.args.caller c.args.at input answers.Check None here mid call found refl c.requires.asked checked refl refl refl refl in
+    let second = passes_other c.args.caller c.args.at park answers.Parked None mid new found last refl asked back refl refl refl refl in
     let P : DrivenModel → Type 0 = λ d. CountsOvertakes c.args.caller c.args.at d new call last in
     subst P c.self.view_is (counts_on c.args.caller c.args.at here mid new call found last first second)
