@@ -1,3 +1,4 @@
+pub mod Beginning
 pub mod Driving
 pub mod Overtaking
 pub mod Queueing

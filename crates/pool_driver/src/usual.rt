@@ -1,14 +1,15 @@
 //! The usual course of a borrow and of a return: an idle object is taken, and a lent one comes back. Where the host need
 //! not be asked, both steps are taken at once.
-ghost use Rattle.std.specs.Prelude.{◌≡◌, max, true, false, List, None, Some, IfNone, IfSome};
+ghost use Rattle.std.specs.Prelude.{◌≡◌, ℕ, max, true, false, Some, IfNone, IfSome};
 ghost use Rattle.std.specs.Option.{is_some};
-ghost use Rattle.pool_calls.specs.Operations.{HasCome, IsRight, is_over, lacks_room, step_at};
-ghost use Rattle.pool_calls.specs.Turns.{Turn, asks_room, is_done};
+ghost use Rattle.pool_calls.specs.Operations.{lacks_room, step_at};
 ghost use Rattle.pool_core.specs.Reply.{has_room, reply_from};
 ghost use Rattle.pool_journal.specs.Base.{closed_from, records_from};
 ghost use Rattle.pool_journal.specs.declared.answer.Answer.TheVariants as answers;
 ghost use Rattle.pool_journal.specs.declared.input.Input.TheVariants as inputs;
-ghost use Rattle.pool_driver.specs.Driving.{GoesFrom, IsAvailable, TakesFirst, is_low_in, may_come_in, until_of};
+ghost use Rattle.pool_driver.specs.Beginning.{Begun};
+ghost use Rattle.pool_driver.specs.Driving.{DrivenModel, GoesFrom, IsAvailable, TakesFirst, may_come_in};
+ghost use Rattle.pool_driver.specs.declared.call.Call.{Call};
 ghost use Rattle.pool_driver.specs.Overtaking.{CountsOvertakes, is_newcomer};
 
 use crate::call::Call;
@@ -108,8 +109,47 @@ impl DrivenPool {
         true
     }
 
-    // A borrow takes an idle object, if one is there and it may have it, and lends it if its host need not be asked.
-    // Returns whether it took one; otherwise nothing changes.
+    // The idle object that a borrow takes, if one is there and it may have it, with the number of available objects and places.
+    #[inline(always)]
+    fn idle_for(&mut self, call: &Call, at: u64, began: u64) -> Option<(u64, u64)>
+        ensures due { IfSome result (λ r. answers.Take r.0 ≡ reply_from self.old.core.settings
+            self.old.core.base self.old.core.journal at (inputs.Borrow began)) }
+        ensures available { IfSome result (λ r. IsAvailable self.old r.1) }
+        ensures may { IfSome result (λ r. is_newcomer call.now ≡ true
+            → may_come_in r.1 self.old ≡ true) }
+        ensures unchanged { self.new ≡ self.old }
+    {
+        let available = self.available_to_newcomer();
+        if self.is_to_forget() || !self.may_ask(call, available) {
+            return None;
+        }
+        match self.core.due(at, Input::Borrow { began }) {
+            Answer::Take(id) => Some((id, available)),
+            _ => None,
+        }
+    }
+
+    // A borrow is lent an idle object by both of its steps, if one is there and it may have it, and its host need not be asked.
+    // Returns whether it was; otherwise nothing changes.
+    #[inline(always)]
+    fn borrow_whole(&mut self, call: &mut Call, caller: u32, at: u64, began: u64) -> bool
+        requires asked { step_at call.old.operation ≡ Some (inputs.Borrow began) }
+        ensures moves { result ≡ true → TakesFirst (inputs.Borrow began) true caller at self.old
+            self.new call.old call.new }
+        ensures overtakes { result ≡ true
+            → CountsOvertakes caller at self.old self.new call.old call.new }
+        ensures room { result ≡ true → lacks_room call.new.operation ≡ false }
+        ensures unchanged { result ≡ false → (self.new ≡ self.old) × (call.new ≡ call.old) }
+        ensures longer { call.new.longer ≡ call.old.longer }
+    {
+        match self.idle_for(call, at, began) {
+            Some((id, available)) => self.lend_idle(call, caller, at, began, id, available),
+            None => false,
+        }
+    }
+
+    // A borrow takes an idle object by its first step, if one is there and it may have it. Returns whether it took one; otherwise
+    // nothing changes.
     #[inline(always)]
     fn borrow_idle(&mut self, call: &mut Call, caller: u32, at: u64, began: u64) -> bool
         requires asked { step_at call.old.operation ≡ Some (inputs.Borrow began) }
@@ -121,17 +161,10 @@ impl DrivenPool {
         ensures unchanged { result ≡ false → (self.new ≡ self.old) × (call.new ≡ call.old) }
         ensures longer { call.new.longer ≡ call.old.longer }
     {
-        let available = self.available_to_newcomer();
-        if self.is_to_forget() || !self.may_ask(call, available) {
-            return false;
+        match self.idle_for(call, at, began) {
+            Some((id, available)) => self.take_idle(call, caller, at, began, id, available),
+            None => false,
         }
-        let Answer::Take(id) = self.core.due(at, Input::Borrow { began }) else {
-            return false;
-        };
-        if self.lend_idle(call, caller, at, began, id, available) {
-            return true;
-        }
-        self.take_idle(call, caller, at, began, id, available)
     }
 
     // Takes a lent object back by both steps of a return, if its host need not be asked and the queue has room. Returns
@@ -177,8 +210,32 @@ impl DrivenPool {
         tell_answer(call, Answer::Check, out);
     }
 
-    // A return has its lent object checked, and gives it back if its host need not be asked. Returns whether the object is
-    // lent; otherwise nothing changes.
+    // Whether a lent object comes back by a return that begins.
+    #[inline(always)]
+    fn is_returned(&self, at: u64, id: u64) -> bool
+        ensures { result ≡ true → answers.Check ≡ reply_from self.now.core.settings
+            self.now.core.base self.now.core.journal at (inputs.GiveBack id) }
+    {
+        !self.is_to_forget() && matches!(self.core.due(at, Input::GiveBack { id }), Answer::Check)
+    }
+
+    // A return gives its lent object back by both of its steps, if its host need not be asked. Returns whether it did; otherwise
+    // nothing changes.
+    #[inline(always)]
+    fn return_whole(&mut self, call: &mut Call, caller: u32, at: u64, id: u64) -> bool
+        requires asked { step_at call.old.operation ≡ Some (inputs.GiveBack id) }
+        ensures moves { result ≡ true → TakesFirst (inputs.GiveBack id) true caller at self.old
+            self.new call.old call.new }
+        ensures overtakes { result ≡ true
+            → CountsOvertakes caller at self.old self.new call.old call.new }
+        ensures room { result ≡ true → lacks_room call.new.operation ≡ false }
+        ensures unchanged { result ≡ false → (self.new ≡ self.old) × (call.new ≡ call.old) }
+        ensures longer { call.new.longer ≡ call.old.longer }
+    {
+        self.is_returned(at, id) && self.park_lent(call, caller, at, id)
+    }
+
+    // A return has its lent object checked by its first step. Returns whether the object is lent; otherwise nothing changes.
     #[inline(always)]
     fn return_lent(&mut self, call: &mut Call, caller: u32, at: u64, id: u64) -> bool
         requires asked { step_at call.old.operation ≡ Some (inputs.GiveBack id) }
@@ -190,20 +247,74 @@ impl DrivenPool {
         ensures unchanged { result ≡ false → (self.new ≡ self.old) × (call.new ≡ call.old) }
         ensures longer { call.new.longer ≡ call.old.longer }
     {
-        if self.is_to_forget() {
+        if !self.is_returned(at, id) {
             return false;
         }
-        let Answer::Check = self.core.due(at, Input::GiveBack { id }) else {
-            return false;
-        };
-        if !self.park_lent(call, caller, at, id) {
-            self.check_lent(call, caller, at, id);
-        }
+        self.check_lent(call, caller, at, id);
         true
     }
 
-    // Takes the first step of a borrow or of a return, as it usually is, and the second one if the host need not be asked.
-    // Returns whether it did; otherwise nothing changes.
+    // What the host does next of a call that took its first step, which is noted to have been at this time.
+    #[inline(always)]
+    fn begun(&mut self, call: &mut Call, at: u64) -> Effects
+        ensures { (caller : ℕ) (old : DrivenModel) (before : Call)
+            → is_some (step_at before.operation) ≡ true
+            → GoesFrom (step_at before.operation) caller at old self.old before call.old
+            → CountsOvertakes caller at old self.old before call.old
+            → lacks_room call.old.operation ≡ false → call.old.longer ≡ before.longer
+            → Begun caller at old self.new before call.new result }
+    {
+        let action = call.operation.action();
+        self.leave_at_end(call, action);
+        self.last = at;
+        self.effects(call, action)
+    }
+
+    /// Goes on with a borrow that begins, as `advance` with `GoOn`, if it is lent an idle object at once.
+    ///
+    /// Returns `None`, and changes nothing, if it is not, or is another call.
+    #[inline(always)]
+    pub fn begin_lent(&mut self, call: &mut Call, caller: u32, at: u64) -> Option<Effects>
+        ensures begun { IfSome result (Begun caller (max at self.old.last) self.old self.new
+            call.old call.new) }
+        ensures unchanged { IfNone result ((self.new ≡ self.old) × (call.new ≡ call.old)) }
+    {
+        let at = at.max(self.last);
+        let Action::Step(input) = call.operation.action() else {
+            return None;
+        };
+        let Input::Borrow { began } = input else {
+            return None;
+        };
+        if !self.borrow_whole(call, caller, at, began) {
+            return None;
+        }
+        Some(self.begun(call, at))
+    }
+
+    /// Goes on with a return that begins, as `advance` with `GoOn`, if its object is idle at once.
+    ///
+    /// Returns `None`, and changes nothing, if it is not, or the call is another one.
+    #[inline(always)]
+    pub fn begin_parked(&mut self, call: &mut Call, caller: u32, at: u64) -> Option<Effects>
+        ensures begun { IfSome result (Begun caller (max at self.old.last) self.old self.new
+            call.old call.new) }
+        ensures unchanged { IfNone result ((self.new ≡ self.old) × (call.new ≡ call.old)) }
+    {
+        let at = at.max(self.last);
+        let Action::Step(input) = call.operation.action() else {
+            return None;
+        };
+        let Input::GiveBack { id } = input else {
+            return None;
+        };
+        if !self.return_whole(call, caller, at, id) {
+            return None;
+        }
+        Some(self.begun(call, at))
+    }
+
+    // Takes the first step of a borrow or of a return, as it usually is. Returns whether it did; otherwise nothing changes.
     #[inline(always)]
     fn take_usual(&mut self, call: &mut Call, caller: u32, at: u64, input: Input) -> bool
         requires asked { step_at call.old.operation ≡ Some input }
@@ -222,28 +333,15 @@ impl DrivenPool {
         }
     }
 
-    /// Goes on with a borrow or a return that begins, as `advance` with `GoOn`, if it takes its usual course.
+    /// Goes on with a borrow or a return that begins, as `advance` with `GoOn`, if an idle object is taken or a lent one checked
+    /// by its first step.
     ///
-    /// Returns `None`, and changes nothing, if it does not, or is another call.
+    /// Returns `None`, and changes nothing, if none is, or the call is another one.
     #[inline(always)]
     pub fn begin_usual(&mut self, call: &mut Call, caller: u32, at: u64) -> Option<Effects>
-        ensures told { IfSome result (λ e. GoesFrom (step_at call.old.operation) caller
-            (max at self.old.last) self.old self.new call.old call.new
-            × CountsOvertakes caller (max at self.old.last) self.old self.new call.old call.new) }
-        ensures last { IfSome result (λ e. self.new.last ≡ max at self.old.last) }
-        ensures action { IfSome result (λ e. (turns : List Turn)
-            → HasCome call.new.operation turns → IsRight call.new.operation turns e.action) }
-        ensures over { IfSome result (λ e. is_done e.action ≡ is_over call.new.operation) }
-        ensures ended { IfSome result (λ e. is_done e.action ≡ true → call.new.ticket ≡ None) }
-        ensures token { IfSome result (λ e. e.token ≡ call.new.token) }
-        ensures ticket { IfSome result (λ e. e.ticket ≡ call.new.ticket) }
-        ensures until { IfSome result (λ e. e.until
-            ≡ until_of self.new.core.settings call.new) }
-        ensures room { IfSome result (λ e. asks_room e.action ≡ false) }
-        ensures low { IfSome result (λ e. e.is_low ≡ is_low_in self.new.core) }
-        ensures begins { IfSome result (λ e. is_some (step_at call.old.operation) ≡ true) }
+        ensures begun { IfSome result (Begun caller (max at self.old.last) self.old self.new
+            call.old call.new) }
         ensures unchanged { IfNone result ((self.new ≡ self.old) × (call.new ≡ call.old)) }
-        ensures longer { call.new.longer ≡ call.old.longer }
     {
         let at = at.max(self.last);
         let Action::Step(input) = call.operation.action() else {
@@ -252,9 +350,6 @@ impl DrivenPool {
         if !self.take_usual(call, caller, at, input) {
             return None;
         }
-        let action = call.operation.action();
-        self.leave_at_end(call, action);
-        self.last = at;
-        Some(self.effects(call, action))
+        Some(self.begun(call, at))
     }
 }

@@ -1,11 +1,11 @@
 //! A pool for C: what each export of the library works on.
-ghost use Rattle.std.specs.Prelude.{◌≡◌, IfNone, IfOk, IfSome, Some};
+ghost use Rattle.std.specs.Prelude.{◌≡◌, max, IfNone, IfOk, IfSome, Some};
 ghost use Rattle.std.specs.Option.{is_some};
-ghost use Rattle.pool_driver.specs.Driving.{Opened, fits_report};
-ghost use Rattle.pool_driver.specs.declared.report.Report.TheVariants as reports;
+ghost use Rattle.pool_driver.specs.Beginning.{Begun};
+ghost use Rattle.pool_driver.specs.Driving.{Begins, Opened, fits_report};
 ghost use Rattle.zuphinka.specs.CallCodes.{kind_at};
-ghost use Rattle.zuphinka.specs.Calling.{AdvancesTo, BeginsTo, ChecksTo, GoesOn, LendsTo, LimitsOvertakes, ReportsState, TakesBackTo, TakesTo, WakesTo, ends_loan, is_lent_in, running_after, running_with};
-ghost use Rattle.zuphinka.specs.Opening.{options_of};
+ghost use Rattle.zuphinka.specs.Calling.{AdvancesTo, Began, BeginsTo, IsKind, ChecksTo, GoesOn, LendsTo, LimitsOvertakes, ReportsState, TakesBackTo, TakesTo, WakesTo, ends_loan, is_lent_in, running_after, running_with};
+ghost use Rattle.zuphinka.specs.Opening.{OpenModel, options_of};
 
 use crate::call_effects::CallEffects;
 use crate::event::CallEvent;
@@ -16,7 +16,7 @@ use crate::pool_state::PoolState;
 use crate::starting::{CallStart, Kind};
 use crate::status::Status;
 use pool_core::Recorder;
-use pool_driver::{Call, DrivenPool, Hooks, Report};
+use pool_driver::{Call, DrivenPool, Effects, Hooks, Report};
 use pool_journal::{Answer, Input};
 use pool_settings::Settings;
 use std::alloc::{AllocError, Global};
@@ -70,19 +70,6 @@ fn go_on(
     ensures unfit { IfNone result ((driven.new ≡ driven.old) × (call.new ≡ call.old)) }
 {
     let made = driven.advance(call, caller, at, report)?;
-    let wake = driven.next_wake();
-    Some(CallEffects::of(&made, &call.operation(), wake))
-}
-
-// Goes on with a borrow or a return that begins, as `go_on` with `GoOn`, if it takes its usual course. Returns `None` if it does
-// not, or is another call.
-#[inline(always)]
-fn go_usually(driven: &mut DrivenPool, call: &mut Call, caller: u32, at: u64) -> Option<CallEffects>
-    ensures goes { IfSome result (λ r. GoesOn caller at reports.GoOn driven.old driven.new call.old
-        call.new r) }
-    ensures unchanged { IfNone result ((driven.new ≡ driven.old) × (call.new ≡ call.old)) }
-{
-    let made = driven.begin_usual(call, caller, at)?;
     let wake = driven.next_wake();
     Some(CallEffects::of(&made, &call.operation(), wake))
 }
@@ -169,8 +156,29 @@ impl OpenPool {
         }
     }
 
-    // Begins a borrow or a return, which is over at once, or has its host work on an object, as a rule.
+    // Tells the host what it does next of a call that has begun, and keeps the call.
     #[inline(always)]
+    fn tell_begun(
+        &mut self,
+        call: &Call,
+        made: &Effects,
+        host: &mut HostCall,
+        effects: &mut CallEffects,
+    )
+        ensures { (start : CallStart) (old : OpenModel) (first : Call) (kind : Kind)
+            → Begins old.driven.plan first → IsKind start old.driven.last kind first
+            → Begun start.caller (max start.at old.driven.last) old.driven self.old.driven first
+            call.now made.now → self.old ≡ record old { driven = self.old.driven }
+            → Began start old self.new host.new effects.new kind }
+    {
+        let wake = self.driven.next_wake();
+        *effects = CallEffects::of(made, &call.operation(), wake);
+        let is_running = host.keep(self.number, call);
+        self.running = running_with(self.running, is_running);
+    }
+
+    // Begins a borrow or a return that has its host work on an object, as a rule.
+    #[inline(never)]
     fn begin_usual(
         &mut self,
         start: &CallStart,
@@ -183,14 +191,56 @@ impl OpenPool {
             result }
     {
         let mut call = start.call(&self.driven, kind);
-        match go_usually(&mut self.driven, &mut call, start.caller, start.at) {
-            Some(next) => {
-                *effects = next;
-                let is_running = host.keep(self.number, &call);
-                self.running = running_with(self.running, is_running);
+        match self.driven.begin_usual(&mut call, start.caller, start.at) {
+            Some(made) => {
+                self.tell_begun(&call, &made, host, effects);
                 Status::Done
             }
             None => self.begin_as(start, kind, host, effects),
+        }
+    }
+
+    // Begins a borrow, which is lent an object at once, as a rule.
+    #[inline(always)]
+    fn begin_borrow(
+        &mut self,
+        start: &CallStart,
+        host: &mut HostCall,
+        effects: &mut CallEffects,
+    ) -> Status
+        requires { kind_at start.now.kind ≡ Some Kind.Borrow }
+        ensures { BeginsTo start.now self.old self.new host.old host.new effects.old effects.new
+            result }
+    {
+        let mut call = start.call(&self.driven, Kind::Borrow);
+        match self.driven.begin_lent(&mut call, start.caller, start.at) {
+            Some(made) => {
+                self.tell_begun(&call, &made, host, effects);
+                Status::Done
+            }
+            None => self.begin_usual(start, Kind::Borrow, host, effects),
+        }
+    }
+
+    // Begins a return, whose object is idle at once, as a rule.
+    #[inline(always)]
+    fn begin_return(
+        &mut self,
+        start: &CallStart,
+        host: &mut HostCall,
+        effects: &mut CallEffects,
+    ) -> Status
+        requires { kind_at start.now.kind ≡ Some Kind.Return }
+        ensures { BeginsTo start.now self.old self.new host.old host.new effects.old effects.new
+            result }
+    {
+        let mut call = start.call(&self.driven, Kind::Return);
+        match self.driven.begin_parked(&mut call, start.caller, start.at) {
+            Some(made) => {
+                self.tell_begun(&call, &made, host, effects);
+                Status::Done
+            }
+            None => self.begin_usual(start, Kind::Return, host, effects),
         }
     }
 
@@ -206,8 +256,8 @@ impl OpenPool {
             result }
     {
         match start.kind() {
-            Some(Kind::Borrow) => self.begin_usual(start, Kind::Borrow, host, effects),
-            Some(Kind::Return) => self.begin_usual(start, Kind::Return, host, effects),
+            Some(Kind::Borrow) => self.begin_borrow(start, host, effects),
+            Some(Kind::Return) => self.begin_return(start, host, effects),
             Some(kind) => self.begin_as(start, kind, host, effects),
             None => Status::BadRequest,
         }
