@@ -34,13 +34,6 @@ static enum zuphinka_pool_error error_of_loan(const struct zuphinka_pool *pool, 
 
 /* ---- the course of a call */
 
-/* A call begins now. */
-static void begin_run(const struct zuphinka_pool *pool, struct run *run) {
-  read_clock(pool, run);
-  run->first = run->at;
-  run->start.caller = run->event.caller = zuphinka_pool_caller();
-}
-
 /* Returns the error of a call that is over, with the lock held. A closed pool is closed, whatever a call lacks. Ends the program if the library
  * answered what it never answers. */
 static enum zuphinka_pool_error error_of_end(struct zuphinka_pool *pool, const struct run *run) {
@@ -64,119 +57,112 @@ static enum zuphinka_pool_error error_of_end(struct zuphinka_pool *pool, const s
 static uint64_t place_of(const void *token) { return (uint64_t)(uintptr_t)token; }
 static void *token_of(uint64_t place) { return (void *)(uintptr_t)place; }
 
-/* Finds the object of the next action, or a place for the one to make, with the lock held. Returns the object, or null if it is to be made. */
-static void *object_of_action(struct zuphinka_pool *pool, struct run *run) {
-  uint32_t action = run->next.action;
-  if (action == ZUPHINKA_ACTION_MAKE) run->lacks_memory = !take_place(&pool->places, &run->place);
-  if (action < ZUPHINKA_ACTION_ACTIVATE || action > ZUPHINKA_ACTION_DESTROY) return NULL;
-  run->place = place_of(run->next.object);
-  return pool->places.all[run->place].object;
-}
-
-/* Returns whether the object that is to be activated, tested or passivated is too old, with the lock held. One that the call has made is not. */
-static bool is_too_old(const struct zuphinka_pool *pool, const struct run *run) {
-  uint64_t most = pool->host.max_lifetime_ms;
-  bool is_kept = run->next.action >= ZUPHINKA_ACTION_ACTIVATE && run->next.action <= ZUPHINKA_ACTION_PASSIVATE;
-  return most > 0 && is_kept && !run->has_made && has_lasted(pool->places.all[run->place].made, run->at.milliseconds, most);
-}
-
-/* Takes the next action of a call, with the lock held before and not after, nor while a callback runs. Returns the report. */
-static uint32_t act(struct zuphinka_pool *pool, struct run *run) {
-  const struct zuphinka_pool_host *host = &pool->host;
-  void *context = host->context, *object = object_of_action(pool, run);
-  uint32_t action = run->next.action, report = ZUPHINKA_REPORT_GO_ON;
-  bool succeeds = true, is_old = is_too_old(pool, run);
-  if (action == ZUPHINKA_ACTION_SLEEP) report = wait_for_wake(pool, run);
-  if (action == ZUPHINKA_ACTION_MAKE_ROOM) report = make_room(pool, run);
+/* Makes an object, with the lock held before and after, and not meanwhile. Returns the report. */
+static uint32_t make_object(struct zuphinka_pool *pool, struct run *run) {
+  uint64_t place = 0;
+  void *object = NULL;
+  run->lacks_memory = !take_place(&pool->places, &place);
   unlock(pool);
-  if (is_old) return ZUPHINKA_REPORT_FAILED;
-  switch (action) {
-    case ZUPHINKA_ACTION_MAKE:
-      succeeds = !run->lacks_memory && host->make(context, run->next.number, &run->made);
-      return succeeds ? ZUPHINKA_REPORT_MADE : ZUPHINKA_REPORT_FAILED;
-    case ZUPHINKA_ACTION_ACTIVATE: succeeds = !host->activate || host->activate(context, object); break;
-    case ZUPHINKA_ACTION_VALIDATE: succeeds = !host->validate || host->validate(context, object); break; /* an eviction run tests in any case */
-    case ZUPHINKA_ACTION_PASSIVATE: succeeds = !host->passivate || host->passivate(context, object); break;
-    case ZUPHINKA_ACTION_DESTROY: host->destroy(context, object); break;
-    default: return report;
-  }
+  bool is_made = !run->lacks_memory && pool->host.make(pool->host.context, run->next.number, &object);
+  lock_again(pool, run);
+  if (!is_made && !run->lacks_memory) free_place(&pool->places, place);
+  if (!is_made) return ZUPHINKA_REPORT_FAILED;
+  pool->places.all[place] = (struct place){.object = object, .id = run->next.number, .made = run->at.milliseconds};
+  run->token = token_of(place);
+  run->has_made = true;
+  return ZUPHINKA_REPORT_MADE;
+}
+
+/* Destroys the object of a place, with the lock held before and after, and not meanwhile. */
+static void destroy_object(struct zuphinka_pool *pool, struct run *run, uint64_t place) {
+  void *object = pool->places.all[place].object;
+  unlock(pool);
+  pool->host.destroy(pool->host.context, object);
+  lock_again(pool, run);
+  free_place(&pool->places, place);
+}
+
+/* A callback that activates, tests or passivates an object. */
+typedef bool callback(void *context, void *object);
+
+/* Returns that of an action, or null. */
+static callback *callback_of(const struct zuphinka_pool_host *host, uint32_t action) {
+  if (action == ZUPHINKA_ACTION_ACTIVATE) return host->activate;
+  return action == ZUPHINKA_ACTION_PASSIVATE ? host->passivate : host->validate;
+}
+
+/* Activates, tests or passivates an object, with the lock held before and after, and not meanwhile. It fails if the object is too old, unless the call
+ * has made it. Without a callback it succeeds: an eviction run tests in any case. Returns the report. */
+static uint32_t prepare_object(struct zuphinka_pool *pool, struct run *run) {
+  const struct zuphinka_pool_host *host = &pool->host;
+  const struct place *place = &pool->places.all[place_of(run->next.object)];
+  callback *prepare = callback_of(host, run->next.action);
+  void *object = place->object;
+  bool is_old = host->max_lifetime_ms > 0 && !run->has_made && has_lasted(place->made, run->at.milliseconds, host->max_lifetime_ms);
+  unlock(pool);
+  bool succeeds = !is_old && (!prepare || prepare(host->context, object));
+  lock_again(pool, run);
   return succeeds ? ZUPHINKA_REPORT_SUCCEEDED : ZUPHINKA_REPORT_FAILED;
 }
 
-/* Notes that the object of the last action was made or destroyed, or could not be made, with the lock held. */
-static void note_action(struct zuphinka_pool *pool, struct run *run) {
-  uint32_t action = run->next.action;
-  bool is_made = run->event.report == ZUPHINKA_REPORT_MADE;
-  if (is_made) {
-    pool->places.all[run->place] = (struct place){.object = run->made, .id = run->next.number, .made = run->at.milliseconds};
-    run->event.object = token_of(run->place);
-    run->has_made = true;
+/* Takes the next action of a call, with the lock held before and after, and not while a callback runs. Returns the report. */
+static uint32_t act(struct zuphinka_pool *pool, struct run *run) {
+  uint32_t report = ZUPHINKA_REPORT_GO_ON;
+  switch (run->next.action) {
+    case ZUPHINKA_ACTION_ACTIVATE:
+    case ZUPHINKA_ACTION_VALIDATE:
+    case ZUPHINKA_ACTION_PASSIVATE: return prepare_object(pool, run);
+    case ZUPHINKA_ACTION_MAKE: return make_object(pool, run);
+    case ZUPHINKA_ACTION_DESTROY: destroy_object(pool, run, place_of(run->next.object)); return ZUPHINKA_REPORT_SUCCEEDED;
+    case ZUPHINKA_ACTION_SLEEP: report = wait_for_wake(pool, run); break;
+    case ZUPHINKA_ACTION_MAKE_ROOM: report = make_room(pool, run); break;
+    default: break;
   }
-  bool is_free = action == ZUPHINKA_ACTION_DESTROY || (action == ZUPHINKA_ACTION_MAKE && !is_made && !run->lacks_memory);
-  if (is_free) free_place(&pool->places, run->place);
-}
-
-/* Makes a borrow or a return that needs no callback and no wait, with the lock held. Returns whether it is over. */
-static inline bool run_at_once(struct zuphinka_pool *pool, struct run *run) {
-  struct zuphinka_loan loan = {run->start.id, run->start.object};
-  uint32_t status = ZUPHINKA_STATUS_NOT_AT_ONCE;
-  if (run->start.kind == ZUPHINKA_KIND_BORROW) status = zuphinka_lend(&pool->core, run->start.caller, run->start.at, &loan);
-  if (run->start.kind == ZUPHINKA_KIND_RETURN) status = zuphinka_take_back(&pool->core, run->start.caller, run->start.at, &loan);
-  if (status != ZUPHINKA_STATUS_DONE) return false;
-  run->next.number = loan.id;
-  run->next.object = loan.object;
-  wake_more(pool);
-  return true;
+  unlock(pool);
+  lock_again(pool, run);
+  bool has_ended = run->loan && error_of_loan(pool, run->loan); /* meanwhile */
+  return has_ended ? ZUPHINKA_REPORT_GIVEN_UP : report;
 }
 
 /* Makes a call from its beginning to its end, with the lock held before and after, and not while a callback runs. Returns its error. */
 static enum zuphinka_pool_error drive(struct zuphinka_pool *pool, struct run *run) {
   struct zuphinka_call call;
   uint32_t status = zuphinka_begin(&pool->core, &run->start, &call, &run->next);
-  if (run->start.kind == ZUPHINKA_KIND_CLOSE) wake(&pool->conditions[CUT]);
   while (status == ZUPHINKA_STATUS_DONE) {
     if (run->next.action == ZUPHINKA_ACTION_SLEEP) run->wakes = condition_of(pool, run->next.ticket)->wakes;
-    if (run->next.has_wake) wake(condition_of(pool, run->next.wake));
-    if (run->next.has_wake) wake_more(pool);
+    if (run->next.has_wake) wake_from(pool, run->next.wake);
     if (run->next.action == ZUPHINKA_ACTION_DONE) break;
-    run->event.report = act(pool, run);
-    run->at = time_of(pool);
-    run->event.at = run->at.milliseconds;
-    lock(pool);
-    note_action(pool, run);
-    if (run->loan && error_of_loan(pool, run->loan)) run->event.report = ZUPHINKA_REPORT_GIVEN_UP; /* it ended meanwhile */
-    status = zuphinka_advance(&pool->core, &call, &run->event, &run->next);
+    uint32_t report = act(pool, run);
+    struct zuphinka_event event = {run->at.milliseconds, run->token, run->start.caller, report};
+    status = zuphinka_advance(&pool->core, &call, &event, &run->next);
   }
   return error_of_end(pool, run);
 }
 
 /* ---- the calls */
 
-/* Returns the loan of an object that was lent by a call just now, with the lock held. */
-static struct zuphinka_pool_loan begin_loan(struct zuphinka_pool *pool, const struct run *run) {
+/* Begins the loan of an object that was lent by a call just now, with the lock held. */
+static void begin_loan(struct zuphinka_pool *pool, const struct run *run, struct zuphinka_pool_loan *loan) {
   uint64_t at = place_of(run->next.object), number = ++pool->last_loan;
   struct place *place = &pool->places.all[at];
   place->number = number;
   place->lent = run->at;
   place->borrower = run->start.caller;
   place->is_reported = false;
-  measure(&pool->measures.waits, run->first.nanoseconds, run->at.nanoseconds);
-  return (struct zuphinka_pool_loan){place->object, run->next.number, pool->number, at, number};
+  measure(&pool->measures.waits, run->first, run->at.nanoseconds);
+  *loan = (struct zuphinka_pool_loan){place->object, run->next.number, pool->number, at, number};
 }
 
 static enum zuphinka_pool_error borrow(struct zuphinka_pool *pool, int64_t limit, struct zuphinka_pool_loan *loan) {
-  struct run run = {.start = {.kind = ZUPHINKA_KIND_BORROW}, .limit = limit};
-  enum zuphinka_pool_error error = ZUPHINKA_POOL_ERROR_NONE;
-  begin_run(pool, &run);
+  struct run run;
+  begin_run(pool, &run, ZUPHINKA_KIND_BORROW, limit);
   lock(pool);
   keep_room(pool, &run, false);
-  if (!run_at_once(pool, &run)) {
-    run.start.at += !pool->host.now && run.at.nanoseconds % (uint64_t)MILLISECOND > 0; /* its wait is as long as it is to be */
-    error = drive(pool, &run);
-  }
-  if (!error) *loan = begin_loan(pool, &run);
+  run.start.at += !pool->host.now; /* the clock was rounded down, and a wait is as long as it is to be */
+  enum zuphinka_pool_error error = drive(pool, &run);
+  if (!error) begin_loan(pool, &run, loan);
+  else store_cut(pool, &run); /* otherwise the next borrow does: this one's loan has begun */
   pool->measures.timeouts += error == ZUPHINKA_POOL_ERROR_TIMED_OUT;
-  if (error) store_cut(pool, &run); /* otherwise the next borrow does: this one's loan has begun */
   unlock(pool);
   return error;
 }
@@ -189,37 +175,28 @@ enum zuphinka_pool_error zuphinka_pool_get_timed(struct zuphinka_pool *pool, uin
   return borrow(pool, after(milliseconds), loan);
 }
 
-/* Destroys the object of a place, with the lock held before and after, and not meanwhile. */
-static void destroy_object(struct zuphinka_pool *pool, uint64_t place) {
-  void *object = pool->places.all[place].object;
-  unlock(pool);
-  pool->host.destroy(pool->host.context, object);
-  lock(pool);
-  free_place(&pool->places, place);
-}
-
 /* Ends the loan of the object of a place, with the lock held before and after. Meanwhile the object is not lent. Returns the error. */
-static enum zuphinka_pool_error end_loan_of(struct zuphinka_pool *pool, struct run *run, uint64_t place) {
-  const struct place before = pool->places.all[place];
-  enum zuphinka_pool_error error = ZUPHINKA_POOL_ERROR_NONE;
-  pool->places.all[place].number = 0;
-  run->start.id = before.id;
-  run->start.object = token_of(place);
-  if (!run_at_once(pool, run)) error = drive(pool, run);
-  if (!error) measure(&pool->measures.loans, before.lent.nanoseconds, run->first.nanoseconds);
+static enum zuphinka_pool_error end_loan_of(struct zuphinka_pool *pool, struct run *run, uint64_t at) {
+  struct place *place = &pool->places.all[at];
+  uint64_t number = place->number, lent = place->lent.nanoseconds;
+  place->number = 0;
+  run->start.id = place->id;
+  run->start.object = token_of(at);
+  enum zuphinka_pool_error error = drive(pool, run);
+  if (!error) measure(&pool->measures.loans, lent, run->first);
   if (!error || error == ZUPHINKA_POOL_ERROR_GONE) return error;
   if (error == ZUPHINKA_POOL_ERROR_NOT_LENT) { /* it was reclaimed, before a change to settings that reclaim none */
-    destroy_object(pool, place);
+    destroy_object(pool, run, at);
     return ZUPHINKA_POOL_ERROR_GONE;
   }
-  pool->places.all[place].number = before.number; /* the call lacked something */
+  pool->places.all[at].number = number; /* the call lacked something */
   return error;
 }
 
 /* Ends a loan by a return or an invalidation. It is read under the lock, since another thread may end it too. */
 static enum zuphinka_pool_error end_loan(struct zuphinka_pool *pool, uint32_t kind, struct zuphinka_pool_loan *loan) {
-  struct run run = {.start = {.kind = kind}, .limit = NEVER};
-  begin_run(pool, &run);
+  struct run run;
+  begin_run(pool, &run, kind, NEVER);
   lock(pool);
   enum zuphinka_pool_error error = error_of_loan(pool, loan);
   if (!error) {
@@ -241,8 +218,8 @@ enum zuphinka_pool_error zuphinka_pool_invalidate(struct zuphinka_pool *pool, st
 }
 
 enum zuphinka_pool_error zuphinka_pool_touch(struct zuphinka_pool *pool, const struct zuphinka_pool_loan *loan) {
-  struct run run = {.start = {.kind = ZUPHINKA_KIND_TOUCH}, .limit = NEVER};
-  begin_run(pool, &run);
+  struct run run;
+  begin_run(pool, &run, ZUPHINKA_KIND_TOUCH, NEVER);
   lock(pool);
   const struct zuphinka_pool_loan used = *loan; /* another thread may end it meanwhile */
   enum zuphinka_pool_error error = error_of_loan(pool, &used);
@@ -260,9 +237,10 @@ enum zuphinka_pool_error zuphinka_pool_touch(struct zuphinka_pool *pool, const s
 
 /* Makes a call that is for no loan, and stores what it came to. */
 static enum zuphinka_pool_error call(struct zuphinka_pool *pool, uint32_t kind, struct zuphinka_effects *last) {
-  struct run run = {.start = {.kind = kind}, .limit = NEVER};
-  begin_run(pool, &run);
+  struct run run;
+  begin_run(pool, &run, kind, NEVER);
   lock(pool);
+  if (kind == ZUPHINKA_KIND_CLOSE) wake(&pool->conditions[CUT]);
   enum zuphinka_pool_error error = drive(pool, &run);
   store_cut(pool, &run);
   unlock(pool);
@@ -311,10 +289,10 @@ static void report_leaks(struct zuphinka_pool *pool) {
 enum zuphinka_pool_error zuphinka_pool_maintain(struct zuphinka_pool *pool, struct zuphinka_pool_maintenance *done) {
   static const uint32_t kinds[] = {ZUPHINKA_KIND_EVICT, ZUPHINKA_KIND_RECLAIM, ZUPHINKA_KIND_FILL};
   struct zuphinka_effects last[3] = {{.count = 0}};
-  struct run run = {.limit = NEVER};
+  struct run run;
   enum zuphinka_pool_error error = ZUPHINKA_POOL_ERROR_NONE;
   report_leaks(pool);
-  begin_run(pool, &run);
+  begin_run(pool, &run, ZUPHINKA_KIND_EVICT, NEVER);
   lock(pool);
   keep_room(pool, &run, true);
   for (int part = 0; part < 3 && !error; part++) {

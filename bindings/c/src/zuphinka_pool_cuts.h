@@ -13,6 +13,12 @@ static void wake_more(struct zuphinka_pool *pool) {
   while (zuphinka_next_wake(&pool->core, &ticket) == ZUPHINKA_STATUS_DONE) wake(condition_of(pool, ticket));
 }
 
+/* Does so from the first of them on. */
+static void wake_from(struct zuphinka_pool *pool, uint64_t ticket) {
+  wake(condition_of(pool, ticket));
+  wake_more(pool);
+}
+
 /* Takes from settings how borrows wait. */
 static void take_waits(struct zuphinka_pool *pool, const struct zuphinka_setup *setup) {
   pool->blocks = setup->block_when_exhausted;

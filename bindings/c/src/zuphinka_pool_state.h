@@ -50,14 +50,13 @@ struct zuphinka_pool {
 struct run {
   struct zuphinka_start start;
   struct zuphinka_effects next; /* what the thread does next */
-  struct zuphinka_event event;  /* what became of its last action */
-  struct moment first, at;      /* when the clock was first and last read */
+  struct moment at;             /* when the clock was last read */
+  uint64_t first;               /* when it was first read, in nanoseconds */
   int64_t began;                /* when its wait began at the earliest, besides what the host's clock says; 0: the pool has a clock of its own */
   uint64_t wakes;               /* of the condition that it is to sleep on, before that */
   int64_t limit;                /* when it waits no longer, besides what the settings say */
   const struct zuphinka_pool_loan *loan; /* whose use it notes, or null */
-  uint64_t place;               /* of the object of its last action, if that has one */
-  void *made;                   /* the object that it made last */
+  void *token;                  /* of the object that it made last */
   bool has_made;                /* it works on no object but those that it made, from then on */
   bool lacks_memory;            /* for the place of an object that it was to make */
   bool has_cut;                 /* it cut the journal; the segment is to be stored once it is over */
@@ -76,16 +75,18 @@ struct change {
 
 /* Returns the time by the pool's clock, without the lock. */
 static struct moment time_of(const struct zuphinka_pool *pool) {
+  if (pool->host.now) {
+    uint64_t now = pool->host.now(pool->host.context);
+    return (struct moment){now, now * (uint64_t)MILLISECOND};
+  }
   uint64_t passed = (uint64_t)(monotonic() - pool->opened);
-  if (!pool->host.now) return (struct moment){passed / (uint64_t)MILLISECOND, passed};
-  uint64_t now = pool->host.now(pool->host.context);
-  return (struct moment){now, now * (uint64_t)MILLISECOND};
+  return (struct moment){passed / (uint64_t)MILLISECOND, passed};
 }
 
 /* Reads the clock without the lock, for a call that begins then. */
 static void read_clock(const struct zuphinka_pool *pool, struct run *run) {
   run->at = time_of(pool);
-  run->start.at = run->event.at = run->at.milliseconds;
+  run->start.at = run->at.milliseconds;
   run->began = pool->host.now ? monotonic() : 0;
 }
 
@@ -96,12 +97,30 @@ uint32_t zuphinka_pool_caller(void) {
   return (uint32_t)(next - 1);
 }
 
+/* A call begins now. */
+static void begin_run(const struct zuphinka_pool *pool, struct run *run, uint32_t kind, int64_t limit) {
+  run->start = (struct zuphinka_start){.kind = kind, .caller = zuphinka_pool_caller()};
+  run->next.end = ZUPHINKA_END_NONE;
+  run->limit = limit;
+  run->loan = NULL;
+  run->token = NULL;
+  run->has_made = run->lacks_memory = run->has_cut = false;
+  read_clock(pool, run);
+  run->first = run->at.nanoseconds;
+}
+
 /* ---- the lock, and sleep */
 
 /* The lock is held for less than a microsecond. */
 static void lock(struct zuphinka_pool *pool) { take(&pool->lock, pool->processors > 1); }
 
 static void unlock(struct zuphinka_pool *pool) { pthread_mutex_unlock(&pool->lock); }
+
+/* Reads the clock and locks, after an action of a call. */
+static void lock_again(struct zuphinka_pool *pool, struct run *run) {
+  run->at = time_of(pool);
+  lock(pool);
+}
 
 static struct condition *condition_of(struct zuphinka_pool *pool, uint64_t ticket) { return &pool->conditions[ticket % CUT]; }
 
@@ -115,7 +134,7 @@ static int64_t latest_end(const struct zuphinka_pool *pool, const struct run *ru
 static int64_t end_of_wait(const struct zuphinka_pool *pool, const struct run *run) {
   int64_t latest = latest_end(pool, run);
   if (!run->next.has_until) return latest;
-  return least(latest, after(run->next.until > run->event.at ? run->next.until - run->event.at : 0));
+  return least(latest, after(run->next.until > run->at.milliseconds ? run->next.until - run->at.milliseconds : 0));
 }
 
 /* Returns what is true of a pool at one time, with the lock held. */
@@ -130,7 +149,7 @@ static struct snapshot look(struct zuphinka_pool *pool) {
  * loan ends meanwhile; but not if the threads that have an object or are in a call need all processors: it would keep one of them from running. */
 static uint32_t wait_for_wake(struct zuphinka_pool *pool, const struct run *run) {
   struct condition *condition = condition_of(pool, run->next.ticket);
-  bool is_at_end = run->next.has_until && run->next.until <= run->event.at; /* of the clock, since its time is not over */
+  bool is_at_end = run->next.has_until && run->next.until <= run->at.milliseconds; /* of the clock, since its time is not over */
   int64_t now = monotonic(), latest = latest_end(pool, run);
   int64_t end = is_at_end ? latest : end_of_wait(pool, run), end_of_pause = least(now + ALL_PAUSES, end);
   if (latest <= now) return ZUPHINKA_REPORT_GIVEN_UP;
