@@ -82,25 +82,15 @@ static void destroy_object(struct zuphinka_pool *pool, struct run *run, uint64_t
   free_place(&pool->places, place);
 }
 
-/* A callback that activates, tests or passivates an object. */
-typedef bool callback(void *context, void *object);
-
-/* Returns that of an action, or null. */
-static callback *callback_of(const struct zuphinka_pool_host *host, uint32_t action) {
-  if (action == ZUPHINKA_ACTION_ACTIVATE) return host->activate;
-  return action == ZUPHINKA_ACTION_PASSIVATE ? host->passivate : host->validate;
-}
-
-/* Activates, tests or passivates an object, with the lock held before and after, and not meanwhile. It fails if the object is too old, unless the call
- * has made it. Without a callback it succeeds: an eviction run tests in any case. Returns the report. */
-static uint32_t prepare_object(struct zuphinka_pool *pool, struct run *run) {
-  const struct zuphinka_pool_host *host = &pool->host;
+/* Activates, tests or passivates an object by a callback, with the lock held before and after, and not meanwhile. It fails if the object is too old,
+ * unless the call has made it. Without a callback it succeeds: an eviction run tests in any case. Returns the report. */
+static uint32_t prepare_object(struct zuphinka_pool *pool, struct run *run, bool (*prepare)(void *context, void *object)) {
   const struct place *place = &pool->places.all[place_of(run->next.object)];
-  callback *prepare = callback_of(host, run->next.action);
   void *object = place->object;
-  bool is_old = host->max_lifetime_ms > 0 && !run->has_made && has_lasted(place->made, run->at.milliseconds, host->max_lifetime_ms);
+  uint64_t most = pool->host.max_lifetime_ms;
+  bool is_old = most > 0 && !run->has_made && has_lasted(place->made, run->at.milliseconds, most);
   unlock(pool);
-  bool succeeds = !is_old && (!prepare || prepare(host->context, object));
+  bool succeeds = !is_old && (!prepare || prepare(pool->host.context, object));
   lock_again(pool, run);
   return succeeds ? ZUPHINKA_REPORT_SUCCEEDED : ZUPHINKA_REPORT_FAILED;
 }
@@ -109,9 +99,9 @@ static uint32_t prepare_object(struct zuphinka_pool *pool, struct run *run) {
 static uint32_t act(struct zuphinka_pool *pool, struct run *run) {
   uint32_t report = ZUPHINKA_REPORT_GO_ON;
   switch (run->next.action) {
-    case ZUPHINKA_ACTION_ACTIVATE:
-    case ZUPHINKA_ACTION_VALIDATE:
-    case ZUPHINKA_ACTION_PASSIVATE: return prepare_object(pool, run);
+    case ZUPHINKA_ACTION_ACTIVATE: return prepare_object(pool, run, pool->host.activate);
+    case ZUPHINKA_ACTION_VALIDATE: return prepare_object(pool, run, pool->host.validate);
+    case ZUPHINKA_ACTION_PASSIVATE: return prepare_object(pool, run, pool->host.passivate);
     case ZUPHINKA_ACTION_MAKE: return make_object(pool, run);
     case ZUPHINKA_ACTION_DESTROY: destroy_object(pool, run, place_of(run->next.object)); return ZUPHINKA_REPORT_SUCCEEDED;
     case ZUPHINKA_ACTION_SLEEP: report = wait_for_wake(pool, run); break;
@@ -157,12 +147,12 @@ static enum zuphinka_pool_error borrow(struct zuphinka_pool *pool, int64_t limit
   struct run run;
   begin_run(pool, &run, ZUPHINKA_KIND_BORROW, limit);
   lock(pool);
-  keep_room(pool, &run, false);
+  keep_room(pool, &run);
   run.start.at += !pool->host.now; /* the clock was rounded down, and a wait is as long as it is to be */
   enum zuphinka_pool_error error = drive(pool, &run);
+  pool->measures.timeouts += error == ZUPHINKA_POOL_ERROR_TIMED_OUT;
   if (!error) begin_loan(pool, &run, loan);
   else store_cut(pool, &run); /* otherwise the next borrow does: this one's loan has begun */
-  pool->measures.timeouts += error == ZUPHINKA_POOL_ERROR_TIMED_OUT;
   unlock(pool);
   return error;
 }
@@ -235,40 +225,32 @@ enum zuphinka_pool_error zuphinka_pool_touch(struct zuphinka_pool *pool, const s
   return error;
 }
 
-/* Makes a call that is for no loan, and stores what it came to. */
-static enum zuphinka_pool_error call(struct zuphinka_pool *pool, uint32_t kind, struct zuphinka_effects *last) {
+/* Makes a call that is for no loan, and stores its counts, unless a pointer is null. */
+static enum zuphinka_pool_error count_by(struct zuphinka_pool *pool, uint32_t kind, uint64_t *count, uint64_t *freed) {
   struct run run;
   begin_run(pool, &run, kind, NEVER);
   lock(pool);
-  if (kind == ZUPHINKA_KIND_CLOSE) wake(&pool->conditions[CUT]);
+  if (kind == ZUPHINKA_KIND_CLOSE) wake(&pool->conditions[CUT]); /* those that sleep there find it closed */
   enum zuphinka_pool_error error = drive(pool, &run);
   store_cut(pool, &run);
   unlock(pool);
-  *last = run.next;
+  if (count) *count = run.next.count;
+  if (freed) *freed = run.next.freed;
   return error;
 }
 
-/* Makes such a call, and stores its count, unless the pointer is null. */
-static enum zuphinka_pool_error count_by(struct zuphinka_pool *pool, uint32_t kind, uint64_t *count) {
-  struct zuphinka_effects last;
-  enum zuphinka_pool_error error = call(pool, kind, &last);
-  if (count) *count = last.count;
-  return error;
+enum zuphinka_pool_error zuphinka_pool_add(struct zuphinka_pool *pool) { return count_by(pool, ZUPHINKA_KIND_ADD, NULL, NULL); }
+
+enum zuphinka_pool_error zuphinka_pool_fill(struct zuphinka_pool *pool, uint64_t *filled) {
+  return count_by(pool, ZUPHINKA_KIND_FILL, filled, NULL);
 }
-
-enum zuphinka_pool_error zuphinka_pool_add(struct zuphinka_pool *pool) { return count_by(pool, ZUPHINKA_KIND_ADD, NULL); }
-
-enum zuphinka_pool_error zuphinka_pool_fill(struct zuphinka_pool *pool, uint64_t *filled) { return count_by(pool, ZUPHINKA_KIND_FILL, filled); }
 
 enum zuphinka_pool_error zuphinka_pool_evict(struct zuphinka_pool *pool, struct zuphinka_pool_eviction *eviction) {
-  struct zuphinka_effects last;
-  enum zuphinka_pool_error error = call(pool, ZUPHINKA_KIND_EVICT, &last);
-  if (eviction) *eviction = (struct zuphinka_pool_eviction){last.count, last.freed};
-  return error;
+  return count_by(pool, ZUPHINKA_KIND_EVICT, eviction ? &eviction->examined : NULL, eviction ? &eviction->destroyed : NULL);
 }
 
 enum zuphinka_pool_error zuphinka_pool_reclaim(struct zuphinka_pool *pool, uint64_t *reclaimed) {
-  return count_by(pool, ZUPHINKA_KIND_RECLAIM, reclaimed);
+  return count_by(pool, ZUPHINKA_KIND_RECLAIM, reclaimed, NULL);
 }
 
 /* Reports the loans that have lasted too long, each once, without the lock. */
@@ -287,33 +269,25 @@ static void report_leaks(struct zuphinka_pool *pool) {
 }
 
 enum zuphinka_pool_error zuphinka_pool_maintain(struct zuphinka_pool *pool, struct zuphinka_pool_maintenance *done) {
-  static const uint32_t kinds[] = {ZUPHINKA_KIND_EVICT, ZUPHINKA_KIND_RECLAIM, ZUPHINKA_KIND_FILL};
-  struct zuphinka_effects last[3] = {{.count = 0}};
-  struct run run;
-  enum zuphinka_pool_error error = ZUPHINKA_POOL_ERROR_NONE;
+  struct zuphinka_pool_maintenance all = {.reclaimed = 0};
   report_leaks(pool);
-  begin_run(pool, &run, ZUPHINKA_KIND_EVICT, NEVER);
   lock(pool);
-  keep_room(pool, &run, true);
-  for (int part = 0; part < 3 && !error; part++) {
-    run.start.kind = kinds[part];
-    run.start.at = run.at.milliseconds;
-    error = drive(pool, &run);
-    last[part] = run.next;
-  }
-  store_cut(pool, &run);
+  keep_room(pool, NULL);
   unlock(pool);
-  if (done) *done = (struct zuphinka_pool_maintenance){{last[0].count, last[0].freed}, last[1].count, last[2].count};
+  enum zuphinka_pool_error error = zuphinka_pool_evict(pool, &all.eviction);
+  if (!error) error = zuphinka_pool_reclaim(pool, &all.reclaimed);
+  if (!error) error = zuphinka_pool_fill(pool, &all.filled);
+  if (done) *done = all;
   return error;
 }
 
 enum zuphinka_pool_error zuphinka_pool_clear(struct zuphinka_pool *pool, uint64_t *destroyed) {
-  return count_by(pool, ZUPHINKA_KIND_CLEAR, destroyed);
+  return count_by(pool, ZUPHINKA_KIND_CLEAR, destroyed, NULL);
 }
 
 uint64_t zuphinka_pool_close(struct zuphinka_pool *pool) {
   uint64_t destroyed = 0;
-  if (pool->process == getpid()) count_by(pool, ZUPHINKA_KIND_CLOSE, &destroyed);
+  if (pool->process == getpid()) count_by(pool, ZUPHINKA_KIND_CLOSE, &destroyed, NULL);
   return destroyed;
 }
 
@@ -376,14 +350,11 @@ static enum zuphinka_pool_error open_core(struct zuphinka_pool *pool, const char
                                      .drops_journal = pool->journal == ZUPHINKA_POOL_JOURNAL_OFF};
   struct zuphinka_setup setup;
   cpu_set_t processors;
-  uint64_t room = 0;
   enum zuphinka_pool_error error = read_settings(settings, length, &setup);
   if (error) return error;
   if (host->is_fair) options.max_overtakes = 0;
   uint32_t status = zuphinka_open_with(&pool->core, settings, length, &options);
-  zuphinka_room(&pool->core, &room);
-  pool->low = pool->quarter = (room + 1) / 4; /* the entry of the close is set aside */
-  take_waits(pool, &setup);
+  take_settings(pool, &setup);
   pool->processors = sched_getaffinity(0, sizeof processors, &processors) == 0 ? (uint64_t)CPU_COUNT(&processors) : CPU_SETSIZE;
   pool->opened = monotonic();
   pool->last_loan = FIRST_LOAN;

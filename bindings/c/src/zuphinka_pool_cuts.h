@@ -7,26 +7,21 @@
 #include "zuphinka_pool_errors.h"
 #include "zuphinka_pool_state.h"
 
-/* Wakes the calls that may find something now, with the lock held. */
-static void wake_more(struct zuphinka_pool *pool) {
-  uint64_t ticket;
-  while (zuphinka_next_wake(&pool->core, &ticket) == ZUPHINKA_STATUS_DONE) wake(condition_of(pool, ticket));
-}
-
-/* Does so from the first of them on. */
+/* Wakes the call with this ticket, and the others that may find something now, with the lock held. */
 static void wake_from(struct zuphinka_pool *pool, uint64_t ticket) {
-  wake(condition_of(pool, ticket));
-  wake_more(pool);
+  do {
+    wake(condition_of(pool, ticket));
+  } while (zuphinka_next_wake(&pool->core, &ticket) == ZUPHINKA_STATUS_DONE);
 }
 
-/* Takes from settings how borrows wait. */
-static void take_waits(struct zuphinka_pool *pool, const struct zuphinka_setup *setup) {
-  pool->blocks = setup->block_when_exhausted;
-  pool->longest_wait = setup->max_wait_millis;
+static void take_settings(struct zuphinka_pool *pool, const struct zuphinka_setup *settings) {
+  pool->settings = *settings;
+  pool->low = pool->quarter = settings->journal_limit / 4;
 }
 
 /* Cuts the stored entries off, with the lock held. If there is a change of the settings, makes it. Returns the status. */
 static uint32_t cut_off(struct zuphinka_pool *pool, struct change *change) {
+  uint64_t ticket;
   uint32_t status = change ? zuphinka_reconfigure(&pool->core, change->text, change->length) : zuphinka_cut(&pool->core);
   if (status != ZUPHINKA_STATUS_DONE) return status;
   pool->cuts++;
@@ -34,9 +29,27 @@ static uint32_t cut_off(struct zuphinka_pool *pool, struct change *change) {
   if (!change) return status;
   change->is_made = true;
   change->first = look(pool).counts.steps;
-  pool->low = pool->quarter = change->setup.journal_limit / 4;
-  take_waits(pool, &change->setup);
-  wake_more(pool);
+  take_settings(pool, &change->setup);
+  if (zuphinka_next_wake(&pool->core, &ticket) == ZUPHINKA_STATUS_DONE) wake_from(pool, ticket);
+  return status;
+}
+
+/* Copies the next line of the base or of the journal. Returns its status: after the last one ZUPHINKA_STATUS_NO_ENTRY. */
+static uint32_t copy_line(struct zuphinka *core, struct segment *segment, size_t capacity) {
+  char *end = segment->text + segment->size;
+  uint64_t left = capacity - segment->size, size = 0, *lines = &segment->base;
+  uint32_t status = zuphinka_base(core, *lines, end, left, &size);
+  if (status == ZUPHINKA_STATUS_NO_ENTRY) status = zuphinka_line(core, *(lines = &segment->entries), end, left, &size);
+  if (status != ZUPHINKA_STATUS_DONE) return status;
+  segment->size += size;
+  ++*lines;
+  return status;
+}
+
+/* Copies lines, until `most` are copied or one is not. Returns the status of the last one. */
+static uint32_t copy_lines(struct zuphinka *core, struct segment *segment, size_t capacity, uint64_t most) {
+  uint32_t status = ZUPHINKA_STATUS_DONE;
+  for (uint64_t lines = 0; status == ZUPHINKA_STATUS_DONE && lines < most; lines++) status = copy_line(core, segment, capacity);
   return status;
 }
 
@@ -99,13 +112,13 @@ static enum zuphinka_pool_error cut_and_store(struct zuphinka_pool *pool, zuphin
   return error;
 }
 
-/* Stores the journal in time for a borrow, or earlier for maintenance, which also tries a segment again that was not stored; with the lock held
- * before and after, and not meanwhile. The call's first step is then taken at the time after it. */
-static void keep_room(struct zuphinka_pool *pool, struct run *run, bool maintains) {
+/* Stores the journal in time for a borrow, or earlier for maintenance, which is no call (null) and tries a segment again that was not stored; with the
+ * lock held before and after, and not meanwhile. The call's first step is then taken at the time after it. */
+static void keep_room(struct zuphinka_pool *pool, struct run *run) {
   if (pool->journal != ZUPHINKA_POOL_JOURNAL_SEGMENTS || pool->cutter) return;
-  bool is_due = maintains ? pool->unstored.text || zuphinka_is_low(&pool->core, 2 * pool->low) : zuphinka_is_low(&pool->core, pool->low);
-  if (!is_due) return;
-  cut_and_store(pool, pool->host.store, pool->host.context, NULL, NULL);
+  bool is_due = run ? zuphinka_is_low(&pool->core, pool->low) : pool->unstored.text || zuphinka_is_low(&pool->core, 2 * pool->low);
+  if (is_due) cut_and_store(pool, pool->host.store, pool->host.context, NULL, NULL);
+  if (!is_due || !run) return;
   unlock(pool);
   read_clock(pool, run);
   lock(pool);
@@ -120,7 +133,7 @@ static bool is_refused(struct zuphinka_pool *pool, uint32_t kind) {
 /* Returns until when a call waits for a cut: a borrow as long as for an object, and so not at all if the settings say that none waits. */
 static int64_t end_of_wait_for_cut(const struct zuphinka_pool *pool, const struct run *run) {
   if (!run) return NEVER;
-  return run->start.kind == ZUPHINKA_KIND_BORROW && !pool->blocks ? AT_ONCE : end_of_wait(pool, run);
+  return run->start.kind == ZUPHINKA_KIND_BORROW && !pool->settings.block_when_exhausted ? AT_ONCE : end_of_wait(pool, run);
 }
 
 /* Sleeps while another thread cuts the journal or stores what was cut off. If it is for a call, it ends once the journal was cut, or the pool refuses

@@ -10,7 +10,6 @@
 #include "zuphinka_pool.h"
 #include "zuphinka_pool_metrics.h"
 #include "zuphinka_pool_places.h"
-#include "zuphinka_pool_segments.h"
 #include "zuphinka_pool_sleep.h"
 
 enum {
@@ -20,6 +19,14 @@ enum {
   MOST_LINES = 256,    /* that are copied in one critical section */
   TRIES = 16,          /* allocations that fail one after the other before a copy gives up */
   LAG = 10,            /* milliseconds by which the host's clock may be behind before a wait ends that is not over by it, and so without an entry */
+};
+
+/* A segment of the journal: its text is copied line by line, then the journal is cut, and the segment is to be stored. */
+struct segment {
+  char *text; /* null: none */
+  size_t size;
+  uint64_t first;         /* the position of its first entry in the history */
+  uint64_t base, entries; /* lines of the base and of the journal that were copied */
 };
 
 struct zuphinka_pool {
@@ -37,12 +44,11 @@ struct zuphinka_pool {
   struct zuphinka core;
   struct measures measures;
   struct places places;
-  uint64_t last_loan;   /* its number */
-  uint64_t cuts;        /* how often the journal was cut */
-  uint64_t low;         /* the room below which a segment is stored */
-  bool blocks;          /* of the setting blockWhenExhausted: whether a borrow waits */
-  int64_t longest_wait; /* of the setting maxWaitMillis: for how long, in milliseconds; negative: without a limit */
-  uint64_t cutter;      /* the thread that cuts the journal or stores what was cut off, which no other one may: its number and 1; 0: none */
+  uint64_t last_loan; /* its number */
+  uint64_t cuts;      /* how often the journal was cut */
+  uint64_t low;       /* the room below which a segment is stored */
+  struct zuphinka_setup settings;
+  uint64_t cutter; /* the thread that cuts the journal or stores what was cut off, which no other one may: its number and 1; 0: none */
   struct condition conditions[CONDITIONS]; /* a thread that waits for an object has that of its ticket, alone if not very many wait */
 };
 
@@ -126,8 +132,9 @@ static struct condition *condition_of(struct zuphinka_pool *pool, uint64_t ticke
 
 /* Returns when the wait of a call ends at the latest, with the lock held: by its caller, or by the settings if the host's clock goes back or stands. */
 static int64_t latest_end(const struct zuphinka_pool *pool, const struct run *run) {
-  if (!run->began || !run->next.has_until || pool->longest_wait < 0) return run->limit;
-  return least(run->limit, run->began + in_nanoseconds((uint64_t)pool->longest_wait) + LAG * MILLISECOND);
+  int64_t most = pool->settings.max_wait_millis;
+  if (!run->began || !run->next.has_until || most < 0) return run->limit;
+  return least(run->limit, run->began + in_nanoseconds((uint64_t)most) + LAG * MILLISECOND);
 }
 
 /* Returns when the wait of a call ends, by the settings or by its caller. */
