@@ -69,7 +69,7 @@ enum zuphinka_pool_error {
   ZUPHINKA_POOL_ERROR_JOURNAL_FULL = 13,      /* the journal has no room */
   ZUPHINKA_POOL_ERROR_STORE_FAILED = 14,      /* `store` failed; the pool keeps the segment for the next try */
   ZUPHINKA_POOL_ERROR_OUT_OF_MEMORY = 15,     /* an allocation failed */
-  ZUPHINKA_POOL_ERROR_NO_LOCK = 16,           /* the system gave no mutex or condition variable */
+  ZUPHINKA_POOL_ERROR_NO_LOCK = 16,           /* no call returns it: the pool needs no mutex of the system */
   ZUPHINKA_POOL_ERROR_MISSING_CALLBACK = 17,  /* `make` or `destroy` is null; or so is `store`, for a journal in segments, or `leak` beside its time */
   ZUPHINKA_POOL_ERROR_NOT_TEXT = 18,          /* the settings are not UTF-8 */
   ZUPHINKA_POOL_ERROR_NOT_TOML = 19,          /* the settings are not a TOML document */
@@ -185,7 +185,7 @@ struct zuphinka_pool_maintenance {
  * `pool`. It copies `host`, and makes no object yet.
  *
  * Errors, and `pool` is unchanged: ZUPHINKA_POOL_ERROR_NULL_POINTER, also for settings of no bytes; _UNKNOWN_SIZE, _UNKNOWN_JOURNAL,
- * _MISSING_CALLBACK, _NOT_TEXT, _NOT_TOML, _UNKNOWN_KEY, _WRONG_TYPE, _OUT_OF_RANGE, _NO_LOCK, _OUT_OF_MEMORY.
+ * _MISSING_CALLBACK, _NOT_TEXT, _NOT_TOML, _UNKNOWN_KEY, _WRONG_TYPE, _OUT_OF_RANGE, _OUT_OF_MEMORY.
  */
 enum zuphinka_pool_error zuphinka_pool_open(struct zuphinka_pool **pool, const char *settings, size_t length,
                                             const struct zuphinka_pool_host *host, enum zuphinka_pool_journal journal);

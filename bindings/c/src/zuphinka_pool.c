@@ -9,7 +9,6 @@
 
 #include "zuphinka_pool.h"
 
-#include <pthread.h>
 #include <sched.h>
 #include <stdatomic.h>
 #include <stdio.h>
@@ -361,18 +360,6 @@ static enum zuphinka_pool_error open_core(struct zuphinka_pool *pool, const char
   return find_error(ZUPHINKA_END_NONE, status);
 }
 
-static void close_conditions(struct zuphinka_pool *pool, int count) {
-  while (count > 0) pthread_cond_destroy(&pool->conditions[--count].changed);
-}
-
-/* Makes the conditions, all or nothing. */
-static bool open_conditions(struct zuphinka_pool *pool) {
-  int count = 0;
-  while (count < CONDITIONS && pthread_cond_init(&pool->conditions[count].changed, NULL) == 0) count++;
-  if (count < CONDITIONS) close_conditions(pool, count);
-  return count == CONDITIONS;
-}
-
 /* Frees the memory of a pool, except for its objects. */
 static void free_pool(struct zuphinka_pool *pool) {
   zuphinka_drop(&pool->core);
@@ -391,11 +378,10 @@ enum zuphinka_pool_error zuphinka_pool_open(struct zuphinka_pool **pool, const c
   if (!host->make || !host->destroy || lacks_store || lacks_leak) return ZUPHINKA_POOL_ERROR_MISSING_CALLBACK;
   struct zuphinka_pool *opened = malloc(sizeof *opened);
   if (!opened) return ZUPHINKA_POOL_ERROR_OUT_OF_MEMORY;
-  *opened = (struct zuphinka_pool){.host = *host, .journal = journal, .lock = PTHREAD_MUTEX_INITIALIZER};
+  *opened = (struct zuphinka_pool){.host = *host, .journal = journal};
   opened->number = atomic_fetch_add(&numbered, 1) + 1;
   opened->process = getpid();
   enum zuphinka_pool_error error = open_core(opened, settings, length);
-  if (!error && !open_conditions(opened)) error = ZUPHINKA_POOL_ERROR_NO_LOCK;
   if (error) free_pool(opened);
   else *pool = opened;
   return error;
@@ -403,7 +389,7 @@ enum zuphinka_pool_error zuphinka_pool_open(struct zuphinka_pool **pool, const c
 
 /* Returns whether no thread is in a call of the copy of a pool in a forked process: one of another thread is unfinished for ever. */
 static bool is_finished(struct zuphinka_pool *pool) {
-  return pthread_mutex_trylock(&pool->lock) == 0 && !pool->cutter && look(pool).state.running == 0;
+  return try_take(&pool->lock) && !pool->cutter && look(pool).state.running == 0;
 }
 
 enum zuphinka_pool_error zuphinka_pool_end(struct zuphinka_pool *pool) {
@@ -417,8 +403,6 @@ enum zuphinka_pool_error zuphinka_pool_end(struct zuphinka_pool *pool) {
     if (pool->journal == ZUPHINKA_POOL_JOURNAL_SEGMENTS) error = zuphinka_pool_cut(pool, pool->host.store, pool->host.context, NULL);
     if (counts.lent + counts.reserved > 0) return ZUPHINKA_POOL_ERROR_IN_USE;
     if (error) return error;
-    close_conditions(pool, CONDITIONS);
-    pthread_mutex_destroy(&pool->lock);
   }
   free_pool(pool);
   return error;

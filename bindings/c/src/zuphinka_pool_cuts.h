@@ -143,7 +143,7 @@ static bool wait_for_cut(struct zuphinka_pool *pool, const struct run *run) {
   int64_t end = end_of_wait_for_cut(pool, run);
   bool may_wait = pool->cutter != UINT64_C(1) + zuphinka_pool_caller();
   while (pool->cutter && pool->cuts <= cuts && may_wait && !(run && is_refused(pool, run->start.kind))) {
-    may_wait = sleep_on(&pool->conditions[CUT], &pool->lock, end);
+    may_wait = sleep_on(pool, &pool->conditions[CUT], end);
   }
   return !pool->cutter;
 }

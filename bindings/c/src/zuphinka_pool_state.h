@@ -2,7 +2,6 @@
 #ifndef ZUPHINKA_POOL_STATE_H
 #define ZUPHINKA_POOL_STATE_H
 
-#include <pthread.h>
 #include <stdatomic.h>
 #include <stdlib.h>
 #include <unistd.h>
@@ -40,7 +39,7 @@ struct zuphinka_pool {
 
   struct segment unstored; /* of the thread that cuts, which needs no lock for it; of the lock if none does */
 
-  pthread_mutex_t lock; /* of all that follows */
+  atomic_uint lock; /* of all that follows */
   struct zuphinka core;
   struct measures measures;
   struct places places;
@@ -59,7 +58,7 @@ struct run {
   struct moment at;             /* when the clock was last read */
   uint64_t first;               /* when it was first read, in nanoseconds */
   int64_t began;                /* when its wait began at the earliest, besides what the host's clock says; 0: the pool has a clock of its own */
-  uint64_t wakes;               /* of the condition that it is to sleep on, before that */
+  unsigned wakes;               /* of the condition that it is to sleep on, before that */
   int64_t limit;                /* when it waits no longer, besides what the settings say */
   const struct zuphinka_pool_loan *loan; /* whose use it notes, or null */
   void *token;                  /* of the object that it made last */
@@ -118,9 +117,23 @@ static void begin_run(const struct zuphinka_pool *pool, struct run *run, uint32_
 /* ---- the lock, and sleep */
 
 /* The lock is held for less than a microsecond. */
-static void lock(struct zuphinka_pool *pool) { take(&pool->lock, pool->processors > 1); }
+static void lock(struct zuphinka_pool *pool) {
+  if (!try_take(&pool->lock)) take_later(&pool->lock, pool->processors > 1);
+}
 
-static void unlock(struct zuphinka_pool *pool) { pthread_mutex_unlock(&pool->lock); }
+static void unlock(struct zuphinka_pool *pool) { release(&pool->lock); }
+
+/* Sleeps until a condition is signalled or a time is reached, or for no reason, with the lock held before and after. Returns whether the time is not
+ * reached. */
+static bool sleep_on(struct zuphinka_pool *pool, struct condition *condition, int64_t end) {
+  unsigned wakes = condition->wakes;
+  condition->sleepers++;
+  unlock(pool);
+  bool is_early = sleep_while(&condition->wakes, wakes, end);
+  lock(pool);
+  condition->sleepers--;
+  return is_early;
+}
 
 /* Reads the clock and locks, after an action of a call. */
 static void lock_again(struct zuphinka_pool *pool, struct run *run) {
@@ -166,7 +179,7 @@ static uint32_t wait_for_wake(struct zuphinka_pool *pool, const struct run *run)
     while (condition->wakes == run->wakes && pause_once(now, end_of_pause)) continue;
     lock(pool);
   }
-  while (condition->wakes == run->wakes && sleep_on(condition, &pool->lock, end)) continue;
+  while (condition->wakes == run->wakes && sleep_on(pool, condition, end)) continue;
   return ZUPHINKA_REPORT_WOKEN;
 }
 
