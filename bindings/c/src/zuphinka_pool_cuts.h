@@ -131,14 +131,14 @@ static bool is_refused(struct zuphinka_pool *pool, uint32_t kind) {
 }
 
 /* Returns until when a call waits for a cut: a borrow as long as for an object, and so not at all if the settings say that none waits. */
-static int64_t end_of_wait_for_cut(const struct zuphinka_pool *pool, const struct run *run) {
+static int64_t end_of_wait_for_cut(const struct zuphinka_pool *pool, struct run *run) {
   if (!run) return NEVER;
   return run->start.kind == ZUPHINKA_KIND_BORROW && !pool->settings.block_when_exhausted ? AT_ONCE : end_of_wait(pool, run);
 }
 
 /* Sleeps while another thread cuts the journal or stores what was cut off. If it is for a call, it ends once the journal was cut, or the pool refuses
  * the call, and lasts no longer than for an object. The lock is held before and after. Returns whether no thread cuts any more. */
-static bool wait_for_cut(struct zuphinka_pool *pool, const struct run *run) {
+static bool wait_for_cut(struct zuphinka_pool *pool, struct run *run) {
   uint64_t cuts = run ? pool->cuts : UINT64_MAX;
   int64_t end = end_of_wait_for_cut(pool, run);
   bool may_wait = pool->cutter != UINT64_C(1) + zuphinka_pool_caller();

@@ -57,7 +57,7 @@ struct run {
   struct zuphinka_effects next; /* what the thread does next */
   struct moment at;             /* when the clock was last read */
   uint64_t first;               /* when it was first read, in nanoseconds */
-  int64_t began;                /* when its wait began at the earliest, besides what the host's clock says; 0: the pool has a clock of its own */
+  int64_t began;                /* when it first waited, besides what the host's clock says; 0: it has not waited */
   unsigned wakes;               /* of the condition that it is to sleep on, before that */
   int64_t limit;                /* when it waits no longer, besides what the settings say */
   const struct zuphinka_pool_loan *loan; /* whose use it notes, or null */
@@ -92,7 +92,6 @@ static struct moment time_of(const struct zuphinka_pool *pool) {
 static void read_clock(const struct zuphinka_pool *pool, struct run *run) {
   run->at = time_of(pool);
   run->start.at = run->at.milliseconds;
-  run->began = pool->host.now ? monotonic() : 0;
 }
 
 uint32_t zuphinka_pool_caller(void) {
@@ -106,6 +105,7 @@ uint32_t zuphinka_pool_caller(void) {
 static void begin_run(const struct zuphinka_pool *pool, struct run *run, uint32_t kind, int64_t limit) {
   run->start = (struct zuphinka_start){.kind = kind, .caller = zuphinka_pool_caller()};
   run->next.end = ZUPHINKA_END_NONE;
+  run->began = 0;
   run->limit = limit;
   run->loan = NULL;
   run->token = NULL;
@@ -144,14 +144,15 @@ static void lock_again(struct zuphinka_pool *pool, struct run *run) {
 static struct condition *condition_of(struct zuphinka_pool *pool, uint64_t ticket) { return &pool->conditions[ticket % CUT]; }
 
 /* Returns when the wait of a call ends at the latest, with the lock held: by its caller, or by the settings if the host's clock goes back or stands. */
-static int64_t latest_end(const struct zuphinka_pool *pool, const struct run *run) {
+static int64_t latest_end(const struct zuphinka_pool *pool, struct run *run) {
   int64_t most = pool->settings.max_wait_millis;
-  if (!run->began || !run->next.has_until || most < 0) return run->limit;
+  if (run->began == 0) run->began = monotonic();
+  if (!pool->host.now || !run->next.has_until || most < 0) return run->limit;
   return least(run->limit, run->began + in_nanoseconds((uint64_t)most) + LAG * MILLISECOND);
 }
 
 /* Returns when the wait of a call ends, by the settings or by its caller. */
-static int64_t end_of_wait(const struct zuphinka_pool *pool, const struct run *run) {
+static int64_t end_of_wait(const struct zuphinka_pool *pool, struct run *run) {
   int64_t latest = latest_end(pool, run);
   if (!run->next.has_until) return latest;
   return least(latest, after(run->next.until > run->at.milliseconds ? run->next.until - run->at.milliseconds : 0));
@@ -167,7 +168,7 @@ static struct snapshot look(struct zuphinka_pool *pool) {
 
 /* Waits until a call is woken or its wait ends, with the lock held before and after. Returns the report. It pauses before it sleeps, since a short
  * loan ends meanwhile; but not if the threads that have an object or are in a call need all processors: it would keep one of them from running. */
-static uint32_t wait_for_wake(struct zuphinka_pool *pool, const struct run *run) {
+static uint32_t wait_for_wake(struct zuphinka_pool *pool, struct run *run) {
   struct condition *condition = condition_of(pool, run->next.ticket);
   bool is_at_end = run->next.has_until && run->next.until <= run->at.milliseconds; /* of the clock, since its time is not over */
   int64_t now = monotonic(), latest = latest_end(pool, run);
