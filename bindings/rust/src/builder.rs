@@ -15,7 +15,7 @@ use crate::pool::Pool;
 use crate::proved_core::{Core, OpenFault};
 use crate::reports::{OnError, Reports};
 use crate::segments::Segments;
-use crate::settings::{millis, Abandoned, Settings, DEFAULT_WAIT_MILLIS};
+use crate::settings::{millis, Abandoned, Settings, Setup, DEFAULT_WAIT_MILLIS};
 use crate::shared::{Policy, Shared};
 use crate::start::Start as PoolStart;
 use crate::stored_journal::Mode;
@@ -342,7 +342,7 @@ impl<M: Manager> Builder<M> {
             Mode::Memory | Mode::Off => "Journal::Memory",
         };
         check_ranges(&setup.settings, limits)?;
-        if let Some(found) = self.chosen.contradiction(&setup.settings, mode)? {
+        if let Some(found) = self.chosen.contradiction(&setup.settings, mode) {
             return Err(OpenError::Contradiction(found));
         }
         let options = sys::Options {
@@ -353,7 +353,7 @@ impl<M: Manager> Builder<M> {
             passivates: M::PASSIVATES,
             drops_journal: mode == Mode::Off,
         };
-        let state = LockedPool::new(open_core(&setup.settings, &options)?, mode, setup);
+        let state = LockedPool::new(open_core(&setup, &options)?, mode, setup);
         let leaks = self.leak_detection.map(LeakDetection::start).transpose();
         policy.leaks = leaks.map_err(no_thread)?;
         let mut pool = Arc::new(Shared::new(state, clock, outlet, manager, policy));
@@ -436,10 +436,9 @@ fn start_threads<M: Manager>(
     Ok(())
 }
 
-pub(crate) fn open_core(settings: &Settings, options: &sys::Options) -> Result<Core, OpenError> {
-    let text = settings.to_string();
-    Settings::from_toml(&text)?;
-    Core::open(&text, options).map_err(|fault| match fault {
+/// Opens a core with valid settings.
+fn open_core(setup: &Setup, options: &sys::Options) -> Result<Core, OpenError> {
+    Core::open(&setup.text, options).map_err(|fault| match fault {
         OpenFault::OutOfMemory => OpenError::OutOfMemory,
         OpenFault::Settings(status) => {
             unreachable!("the core refuses its settings with status {status}")

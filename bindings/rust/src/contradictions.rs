@@ -1,13 +1,8 @@
 //! Settings of a builder that contradict each other.
 
-use crate::builder::open_core;
-use crate::call::{Action, End, Kind, Report};
-use crate::error::{Contradiction, OpenError};
-use crate::proved_core::{Call, Core, Event, Start};
+use crate::error::Contradiction;
 use crate::settings::Settings;
-use crate::step::StepFault;
 use crate::stored_journal::Mode;
-use crate::sys;
 
 /// Which settings were set by the builder's own methods. Only these are held against others.
 #[derive(Clone, Copy, Debug, Default)]
@@ -27,26 +22,8 @@ fn is_above(number: i64, limit: i64) -> bool {
 }
 
 impl Chosen {
-    /// Returns the first contradiction of the settings, of a pool with a journal of a kind.
-    ///
-    /// # Errors
-    ///
-    /// The settings are invalid, or there is no memory.
-    pub fn contradiction(
-        self,
-        settings: &Settings,
-        mode: Mode,
-    ) -> Result<Option<Contradiction>, OpenError> {
-        if let Some(found) = self.contradiction_of_numbers(settings) {
-            return Ok(Some(found));
-        }
-        let is_chosen = self.journal_limit || self.max_total;
-        let is_too_small = is_chosen && lends_too_few(settings, mode)?;
-        Ok(is_too_small.then_some(Contradiction::JournalTooSmall))
-    }
-
-    /// Returns the first contradiction that the settings show.
-    fn contradiction_of_numbers(self, settings: &Settings) -> Option<Contradiction> {
+    /// Returns the first contradiction of valid settings, of a pool with a journal of a kind.
+    pub fn contradiction(self, settings: &Settings, mode: Mode) -> Option<Contradiction> {
         let waits_for_ever = settings.block_when_exhausted && settings.max_wait_millis < 0;
         let reclaims = settings.abandoned.map_or(true, |abandoned| {
             abandoned.on_borrow || abandoned.on_maintenance
@@ -72,6 +49,10 @@ impl Chosen {
                 Contradiction::WaitWithoutBlocking,
             ),
             (self.abandoned && !reclaims, Contradiction::NeverReclaimed),
+            (
+                (self.journal_limit || self.max_total) && lends_too_few(settings, mode),
+                Contradiction::JournalTooSmall,
+            ),
         ];
         found
             .into_iter()
@@ -79,55 +60,20 @@ impl Chosen {
     }
 }
 
+/// The outstanding entries of a lent object.
+const OUTSTANDING: u64 = 4;
+
 /// Returns whether a journal that is kept is full before all objects are lent at a time, or before one is if there may be any number.
-fn lends_too_few(settings: &Settings, mode: Mode) -> Result<bool, OpenError> {
+fn lends_too_few(settings: &Settings, mode: Mode) -> bool {
     let wanted = u64::try_from(settings.max_total).unwrap_or(1);
-    Ok(mode != Mode::Off && wanted > 0 && most_lent(settings, mode)? < wanted)
-}
-
-/// Returns how many objects of any number can be lent at a time before the journal is full, by the room of a core that lends one.
-fn most_lent(settings: &Settings, mode: Mode) -> Result<u64, OpenError> {
-    let mut core = open_core(settings, &sys::Options::default())?;
-    let room = core.room();
-    match lend(&mut core) {
-        Ok(()) => {}
-        Err(StepFault::JournalFull) => return Ok(0),
-        Err(StepFault::OutOfMemory) => return Err(OpenError::OutOfMemory),
-    }
-    let used = room - core.room();
-    if mode == Mode::Segments {
+    let first = settings.least_room();
+    let each = match mode {
+        Mode::Off => return false,
+        Mode::Memory => first,
         // The entries of one loan are handed to the sink before the next.
-        core.cut().map_err(|_| OpenError::OutOfMemory)?;
-    }
-    let still_used = room - core.room();
-    Ok(1 + (room - used) / still_used)
-}
-
-/// Lends an object by a borrow that makes it.
-fn lend(core: &mut Core) -> Result<(), StepFault> {
-    let mut call = Call::new();
-    core.begin(
-        Start {
-            kind: Kind::Borrow,
-            caller: 0,
-            at: 0,
-            id: 0,
-            token: 0,
-        },
-        &mut call,
-    );
-    if call.action() == Action::Make {
-        let made = Event {
-            report: Report::Made,
-            caller: 0,
-            at: 0,
-            token: 0,
-        };
-        core.advance(made, &mut call);
-    }
-    match call.action() {
-        Action::Done(End::Lent) => Ok(()),
-        Action::MakeRoom => Err(StepFault::JournalFull),
-        _ => Err(StepFault::OutOfMemory),
-    }
+        Mode::Segments => OUTSTANDING,
+    };
+    // One more entry is that of the close.
+    let most = settings.journal_limit.unsigned_abs();
+    wanted > 0 && first + (wanted - 1) * each + 1 > most
 }

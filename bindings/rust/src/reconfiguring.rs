@@ -1,7 +1,7 @@
 //! Changes of the settings of a pool that is open.
 
 use crate::contradictions::Chosen;
-use crate::error::{OpenError, ReconfigureError};
+use crate::error::ReconfigureError;
 use crate::failure::Failure;
 use crate::manager::Manager;
 use crate::settings::{Settings, Setup};
@@ -26,8 +26,7 @@ impl<M: Manager> Shared<M> {
             journal_limit: self.policy.journal_limit.is_some(),
             ..Chosen::default()
         };
-        let found = chosen.contradiction(&change.settings, mode);
-        match found.map_err(error_of)? {
+        match chosen.contradiction(&change.settings, mode) {
             Some(contradiction) => Err(ReconfigureError::Contradiction(contradiction)),
             None => Ok(()),
         }
@@ -65,17 +64,5 @@ impl<M: Manager> Shared<M> {
             }
         }
         Ok(first)
-    }
-}
-
-/// Returns the error of settings with which no pool would open.
-fn error_of(error: OpenError) -> ReconfigureError {
-    match error {
-        OpenError::Settings(error) => ReconfigureError::Settings(error),
-        OpenError::Contradiction(found) => ReconfigureError::Contradiction(found),
-        OpenError::OutOfMemory => ReconfigureError::OutOfMemory,
-        OpenError::OutOfRange(_) | OpenError::Thread(_) => {
-            unreachable!("no builder is asked, and no thread is started")
-        }
     }
 }
