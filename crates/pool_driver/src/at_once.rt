@@ -26,7 +26,11 @@ impl DrivenPool {
 
     // Whether the journal is to be cut or dropped, which calls that take longer see to.
     fn has_long_journal(&self) -> bool {
-        self.is_low() || self.is_to_forget()
+        if self.drops {
+            self.has_many_entries()
+        } else {
+            self.is_low()
+        }
     }
 
     // The object that a borrow takes that begins now, at this time, and comes before those that wait; and the number of
