@@ -211,11 +211,6 @@ fits_report reports.RoomMade op = fits op events.RoomMade
 fits_report reports.NoRoom op = fits op events.NoRoom
 fits_report reports.GivenUp op = fits op events.Cancelled
 
--- the journal ends with this entry
-pub record EndsWith (e : Entry) (J : List Entry) : Type 0 where
-  pub earlier : List Entry
-  pub is : J ≡ earlier ++ e ∷ []
-
 -- ---- waits
 -- the present objects
 abbrev pub present_of : Counts → ℕ

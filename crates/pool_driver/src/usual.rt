@@ -142,6 +142,9 @@ impl DrivenPool {
         ensures unchanged { result ≡ false → (self.new ≡ self.old) × (call.new ≡ call.old) }
         ensures longer { call.new.longer ≡ call.old.longer }
     {
+        if call.operation.lent_at_once(0).is_none() {
+            return false;
+        }
         match self.idle_for(call, at, began) {
             Some((id, available)) => self.lend_idle(call, caller, at, began, id, available),
             None => false,
@@ -232,7 +235,9 @@ impl DrivenPool {
         ensures unchanged { result ≡ false → (self.new ≡ self.old) × (call.new ≡ call.old) }
         ensures longer { call.new.longer ≡ call.old.longer }
     {
-        self.is_returned(at, id) && self.park_lent(call, caller, at, id)
+        call.operation.parked_at_once(id).is_some()
+            && self.is_returned(at, id)
+            && self.park_lent(call, caller, at, id)
     }
 
     // A return has its lent object checked by its first step. Returns whether the object is lent; otherwise nothing changes.
@@ -314,31 +319,11 @@ impl DrivenPool {
         Some(self.begun(call, at))
     }
 
-    // Takes the first step of a borrow or of a return, as it usually is. Returns whether it did; otherwise nothing changes.
-    #[inline(always)]
-    fn take_usual(&mut self, call: &mut Call, caller: u32, at: u64, input: Input) -> bool
-        requires asked { step_at call.old.operation ≡ Some input }
-        ensures moves { result ≡ true
-            → TakesFirst input true caller at self.old self.new call.old call.new }
-        ensures overtakes { result ≡ true
-            → CountsOvertakes caller at self.old self.new call.old call.new }
-        ensures room { result ≡ true → lacks_room call.new.operation ≡ false }
-        ensures unchanged { result ≡ false → (self.new ≡ self.old) × (call.new ≡ call.old) }
-        ensures longer { call.new.longer ≡ call.old.longer }
-    {
-        match input {
-            Input::Borrow { began } => self.borrow_idle(call, caller, at, began),
-            Input::GiveBack { id } => self.return_lent(call, caller, at, id),
-            _ => false,
-        }
-    }
-
-    /// Goes on with a borrow or a return that begins, as `advance` with `GoOn`, if an idle object is taken or a lent one checked
-    /// by its first step.
+    /// Goes on with a borrow that begins, as `advance` with `GoOn`, if it takes an idle object by its first step.
     ///
-    /// Returns `None`, and changes nothing, if none is, or the call is another one.
+    /// Returns `None`, and changes nothing, if it does not, or is another call.
     #[inline(always)]
-    pub fn begin_usual(&mut self, call: &mut Call, caller: u32, at: u64) -> Option<Effects>
+    pub fn begin_taken(&mut self, call: &mut Call, caller: u32, at: u64) -> Option<Effects>
         ensures begun { IfSome result (Begun caller (max at self.old.last) self.old self.new
             call.old call.new) }
         ensures unchanged { IfNone result ((self.new ≡ self.old) × (call.new ≡ call.old)) }
@@ -347,7 +332,32 @@ impl DrivenPool {
         let Action::Step(input) = call.operation.action() else {
             return None;
         };
-        if !self.take_usual(call, caller, at, input) {
+        let Input::Borrow { began } = input else {
+            return None;
+        };
+        if !self.borrow_idle(call, caller, at, began) {
+            return None;
+        }
+        Some(self.begun(call, at))
+    }
+
+    /// Goes on with a return that begins, as `advance` with `GoOn`, if its object is checked by its first step.
+    ///
+    /// Returns `None`, and changes nothing, if it is not, or the call is another one.
+    #[inline(always)]
+    pub fn begin_checked(&mut self, call: &mut Call, caller: u32, at: u64) -> Option<Effects>
+        ensures begun { IfSome result (Begun caller (max at self.old.last) self.old self.new
+            call.old call.new) }
+        ensures unchanged { IfNone result ((self.new ≡ self.old) × (call.new ≡ call.old)) }
+    {
+        let at = at.max(self.last);
+        let Action::Step(input) = call.operation.action() else {
+            return None;
+        };
+        let Input::GiveBack { id } = input else {
+            return None;
+        };
+        if !self.return_lent(call, caller, at, id) {
             return None;
         }
         Some(self.begun(call, at))

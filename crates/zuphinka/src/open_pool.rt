@@ -177,26 +177,47 @@ impl OpenPool {
         self.running = running_with(self.running, is_running);
     }
 
-    // Begins a borrow or a return that has its host work on an object, as a rule.
+    // Begins a borrow whose host works on an idle object, as a rule.
     #[inline(never)]
-    fn begin_usual(
+    fn begin_taken(
         &mut self,
         start: &CallStart,
-        kind: Kind,
         host: &mut HostCall,
         effects: &mut CallEffects,
     ) -> Status
-        requires { kind_at start.now.kind ≡ Some kind }
+        requires { kind_at start.now.kind ≡ Some Kind.Borrow }
         ensures { BeginsTo start.now self.old self.new host.old host.new effects.old effects.new
             result }
     {
-        let mut call = start.call(&self.driven, kind);
-        match self.driven.begin_usual(&mut call, start.caller, start.at) {
+        let mut call = start.call(&self.driven, Kind::Borrow);
+        match self.driven.begin_taken(&mut call, start.caller, start.at) {
             Some(made) => {
                 self.tell_begun(&call, &made, host, effects);
                 Status::Done
             }
-            None => self.begin_as(start, kind, host, effects),
+            None => self.begin_as(start, Kind::Borrow, host, effects),
+        }
+    }
+
+    // Begins a return whose host works on its object, as a rule.
+    #[inline(never)]
+    fn begin_checked(
+        &mut self,
+        start: &CallStart,
+        host: &mut HostCall,
+        effects: &mut CallEffects,
+    ) -> Status
+        requires { kind_at start.now.kind ≡ Some Kind.Return }
+        ensures { BeginsTo start.now self.old self.new host.old host.new effects.old effects.new
+            result }
+    {
+        let mut call = start.call(&self.driven, Kind::Return);
+        match self.driven.begin_checked(&mut call, start.caller, start.at) {
+            Some(made) => {
+                self.tell_begun(&call, &made, host, effects);
+                Status::Done
+            }
+            None => self.begin_as(start, Kind::Return, host, effects),
         }
     }
 
@@ -218,7 +239,7 @@ impl OpenPool {
                 self.tell_begun(&call, &made, host, effects);
                 Status::Done
             }
-            None => self.begin_usual(start, Kind::Borrow, host, effects),
+            None => self.begin_taken(start, host, effects),
         }
     }
 
@@ -240,7 +261,7 @@ impl OpenPool {
                 self.tell_begun(&call, &made, host, effects);
                 Status::Done
             }
-            None => self.begin_usual(start, Kind::Return, host, effects),
+            None => self.begin_checked(start, host, effects),
         }
     }
 

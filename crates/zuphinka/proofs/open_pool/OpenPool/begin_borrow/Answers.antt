@@ -20,6 +20,6 @@ pub returns-in-None : goal.returns-in-None
 returns-in-None c =
     let old = c.self.inside in
     let same : DrivenModel → OpenModel = λ d. record { driven = d; running = old.running; number = old.number; hooks = old.hooks } in
-    let last = c.begin_usual.new in
-    let P : OpenModel → Type 0 = λ p. BeginsTo c.args.start.now p last.self c.args.host.now last.host c.args.effects.now last.effects c.begin_usual.result in
-    subst P (ap same c.in-None.ensures.unchanged.0 ∙ c.self.view_is) c.begin_usual.ensures
+    let last = c.begin_taken.new in
+    let P : OpenModel → Type 0 = λ p. BeginsTo c.args.start.now p last.self c.args.host.now last.host c.args.effects.now last.effects c.begin_taken.result in
+    subst P (ap same c.in-None.ensures.unchanged.0 ∙ c.self.view_is) c.begin_taken.ensures
