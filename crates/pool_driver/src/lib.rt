@@ -6,6 +6,7 @@ mod at_once;
 mod beginning;
 mod call;
 mod effects;
+mod first_steps;
 mod hooks;
 mod journal;
 mod options;

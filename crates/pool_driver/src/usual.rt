@@ -1,22 +1,17 @@
 //! The usual course of a borrow and of a return: an idle object is taken, and a lent one comes back. Where the host need
 //! not be asked, both steps are taken at once.
-ghost use Rattle.std.specs.Prelude.{◌≡◌, ℕ, max, true, false, Some, IfNone, IfSome};
-ghost use Rattle.std.specs.Option.{is_some};
+ghost use Rattle.std.specs.Prelude.{◌≡◌, true, false, Some, IfSome};
 ghost use Rattle.pool_calls.specs.Operations.{lacks_room, step_at};
 ghost use Rattle.pool_core.specs.Reply.{has_room, reply_from};
 ghost use Rattle.pool_journal.specs.Base.{closed_from, records_from};
 ghost use Rattle.pool_journal.specs.declared.answer.Answer.TheVariants as answers;
 ghost use Rattle.pool_journal.specs.declared.input.Input.TheVariants as inputs;
-ghost use Rattle.pool_driver.specs.Beginning.{Begun};
-ghost use Rattle.pool_driver.specs.Driving.{DrivenModel, GoesFrom, IsAvailable, TakesFirst, may_come_in};
-ghost use Rattle.pool_driver.specs.declared.call.Call.{Call};
+ghost use Rattle.pool_driver.specs.Driving.{IsAvailable, TakesFirst, may_come_in};
 ghost use Rattle.pool_driver.specs.Overtaking.{CountsOvertakes, is_newcomer};
 
 use crate::call::Call;
-use crate::effects::Effects;
 use crate::pool::DrivenPool;
 use crate::stepping::tell_answer;
-use pool_calls::Action;
 use pool_journal::{Answer, Input};
 
 impl DrivenPool {
@@ -129,10 +124,10 @@ impl DrivenPool {
         }
     }
 
-    // A borrow is lent an idle object by both of its steps, if one is there and it may have it, and its host need not be asked.
-    // Returns whether it was; otherwise nothing changes.
+    /// A borrow is lent an idle object by both of its steps, if one is there and it may have it, and its host need not be asked.
+    /// Returns whether it was; otherwise nothing changes.
     #[inline(always)]
-    fn borrow_whole(&mut self, call: &mut Call, caller: u32, at: u64, began: u64) -> bool
+    pub(crate) fn borrow_whole(&mut self, call: &mut Call, caller: u32, at: u64, began: u64) -> bool
         requires asked { step_at call.old.operation ≡ Some (inputs.Borrow began) }
         ensures moves { result ≡ true → TakesFirst (inputs.Borrow began) true caller at self.old
             self.new call.old call.new }
@@ -151,10 +146,10 @@ impl DrivenPool {
         }
     }
 
-    // A borrow takes an idle object by its first step, if one is there and it may have it. Returns whether it took one; otherwise
-    // nothing changes.
+    /// A borrow takes an idle object by its first step, if one is there and it may have it. Returns whether it took one; otherwise
+    /// nothing changes.
     #[inline(always)]
-    fn borrow_idle(&mut self, call: &mut Call, caller: u32, at: u64, began: u64) -> bool
+    pub(crate) fn borrow_idle(&mut self, call: &mut Call, caller: u32, at: u64, began: u64) -> bool
         requires asked { step_at call.old.operation ≡ Some (inputs.Borrow began) }
         ensures moves { result ≡ true → TakesFirst (inputs.Borrow began) true caller at self.old
             self.new call.old call.new }
@@ -222,10 +217,10 @@ impl DrivenPool {
         !self.is_to_forget() && matches!(self.core.due(at, Input::GiveBack { id }), Answer::Check)
     }
 
-    // A return gives its lent object back by both of its steps, if its host need not be asked. Returns whether it did; otherwise
-    // nothing changes.
+    /// A return gives its lent object back by both of its steps, if its host need not be asked. Returns whether it did; otherwise
+    /// nothing changes.
     #[inline(always)]
-    fn return_whole(&mut self, call: &mut Call, caller: u32, at: u64, id: u64) -> bool
+    pub(crate) fn return_whole(&mut self, call: &mut Call, caller: u32, at: u64, id: u64) -> bool
         requires asked { step_at call.old.operation ≡ Some (inputs.GiveBack id) }
         ensures moves { result ≡ true → TakesFirst (inputs.GiveBack id) true caller at self.old
             self.new call.old call.new }
@@ -240,9 +235,9 @@ impl DrivenPool {
             && self.park_lent(call, caller, at, id)
     }
 
-    // A return has its lent object checked by its first step. Returns whether the object is lent; otherwise nothing changes.
+    /// A return has its lent object checked by its first step. Returns whether the object is lent; otherwise nothing changes.
     #[inline(always)]
-    fn return_lent(&mut self, call: &mut Call, caller: u32, at: u64, id: u64) -> bool
+    pub(crate) fn return_lent(&mut self, call: &mut Call, caller: u32, at: u64, id: u64) -> bool
         requires asked { step_at call.old.operation ≡ Some (inputs.GiveBack id) }
         ensures moves { result ≡ true → TakesFirst (inputs.GiveBack id) true caller at self.old
             self.new call.old call.new }
@@ -257,109 +252,5 @@ impl DrivenPool {
         }
         self.check_lent(call, caller, at, id);
         true
-    }
-
-    // What the host does next of a call that took its first step, which is noted to have been at this time.
-    #[inline(always)]
-    fn begun(&mut self, call: &mut Call, at: u64) -> Effects
-        ensures { (caller : ℕ) (old : DrivenModel) (before : Call)
-            → is_some (step_at before.operation) ≡ true
-            → GoesFrom (step_at before.operation) caller at old self.old before call.old
-            → CountsOvertakes caller at old self.old before call.old
-            → lacks_room call.old.operation ≡ false → call.old.longer ≡ before.longer
-            → Begun caller at old self.new before call.new result }
-    {
-        let action = call.operation.action();
-        self.leave_at_end(call, action);
-        self.last = at;
-        self.effects(call, action)
-    }
-
-    /// Goes on with a borrow that begins, as `advance` with `GoOn`, if it is lent an idle object at once.
-    ///
-    /// Returns `None`, and changes nothing, if it is not, or is another call.
-    #[inline(always)]
-    pub fn begin_lent(&mut self, call: &mut Call, caller: u32, at: u64) -> Option<Effects>
-        ensures begun { IfSome result (Begun caller (max at self.old.last) self.old self.new
-            call.old call.new) }
-        ensures unchanged { IfNone result ((self.new ≡ self.old) × (call.new ≡ call.old)) }
-    {
-        let at = at.max(self.last);
-        let Action::Step(input) = call.operation.action() else {
-            return None;
-        };
-        let Input::Borrow { began } = input else {
-            return None;
-        };
-        if !self.borrow_whole(call, caller, at, began) {
-            return None;
-        }
-        Some(self.begun(call, at))
-    }
-
-    /// Goes on with a return that begins, as `advance` with `GoOn`, if its object is idle at once.
-    ///
-    /// Returns `None`, and changes nothing, if it is not, or the call is another one.
-    #[inline(always)]
-    pub fn begin_parked(&mut self, call: &mut Call, caller: u32, at: u64) -> Option<Effects>
-        ensures begun { IfSome result (Begun caller (max at self.old.last) self.old self.new
-            call.old call.new) }
-        ensures unchanged { IfNone result ((self.new ≡ self.old) × (call.new ≡ call.old)) }
-    {
-        let at = at.max(self.last);
-        let Action::Step(input) = call.operation.action() else {
-            return None;
-        };
-        let Input::GiveBack { id } = input else {
-            return None;
-        };
-        if !self.return_whole(call, caller, at, id) {
-            return None;
-        }
-        Some(self.begun(call, at))
-    }
-
-    /// Goes on with a borrow that begins, as `advance` with `GoOn`, if it takes an idle object by its first step.
-    ///
-    /// Returns `None`, and changes nothing, if it does not, or is another call.
-    #[inline(always)]
-    pub fn begin_taken(&mut self, call: &mut Call, caller: u32, at: u64) -> Option<Effects>
-        ensures begun { IfSome result (Begun caller (max at self.old.last) self.old self.new
-            call.old call.new) }
-        ensures unchanged { IfNone result ((self.new ≡ self.old) × (call.new ≡ call.old)) }
-    {
-        let at = at.max(self.last);
-        let Action::Step(input) = call.operation.action() else {
-            return None;
-        };
-        let Input::Borrow { began } = input else {
-            return None;
-        };
-        if !self.borrow_idle(call, caller, at, began) {
-            return None;
-        }
-        Some(self.begun(call, at))
-    }
-
-    /// Goes on with a return that begins, as `advance` with `GoOn`, if its object is checked by its first step.
-    ///
-    /// Returns `None`, and changes nothing, if it is not, or the call is another one.
-    #[inline(always)]
-    pub fn begin_checked(&mut self, call: &mut Call, caller: u32, at: u64) -> Option<Effects>
-        ensures begun { IfSome result (Begun caller (max at self.old.last) self.old self.new
-            call.old call.new) }
-        ensures unchanged { IfNone result ((self.new ≡ self.old) × (call.new ≡ call.old)) }
-    {
-        let at = at.max(self.last);
-        let Action::Step(input) = call.operation.action() else {
-            return None;
-        };
-        let Input::GiveBack { id } = input else {
-            return None;
-        };
-        if !self.return_lent(call, caller, at, id) {
-            return None;
-        }
-        Some(self.begun(call, at))
     }
 }

@@ -1,11 +1,9 @@
 //! A pool for C: what each export of the library works on.
-ghost use Rattle.std.specs.Prelude.{◌≡◌, max, IfNone, IfOk, IfSome, Some};
+ghost use Rattle.std.specs.Prelude.{◌≡◌, IfNone, IfOk, IfSome};
 ghost use Rattle.std.specs.Option.{is_some};
-ghost use Rattle.pool_driver.specs.Beginning.{Begun};
-ghost use Rattle.pool_driver.specs.Driving.{Begins, Opened, fits_report};
-ghost use Rattle.zuphinka.specs.CallCodes.{kind_at};
-ghost use Rattle.zuphinka.specs.Calling.{AdvancesTo, Began, BeginsTo, IsKind, ChecksTo, GoesOn, LendsTo, LimitsOvertakes, ReportsState, TakesBackTo, TakesTo, WakesTo, ends_loan, is_lent_in, running_after, running_with};
-ghost use Rattle.zuphinka.specs.Opening.{OpenModel, options_of};
+ghost use Rattle.pool_driver.specs.Driving.{Opened, fits_report};
+ghost use Rattle.zuphinka.specs.Calling.{AdvancesTo, ChecksTo, GoesOn, LendsTo, LimitsOvertakes, ReportsState, TakesBackTo, TakesTo, WakesTo, ends_loan, is_lent_in, running_after, running_with};
+ghost use Rattle.zuphinka.specs.Opening.{options_of};
 
 use crate::call_effects::CallEffects;
 use crate::event::CallEvent;
@@ -13,10 +11,9 @@ use crate::host_call::HostCall;
 use crate::loan::Loan;
 use crate::pool_options::PoolOptions;
 use crate::pool_state::PoolState;
-use crate::starting::{CallStart, Kind};
 use crate::status::Status;
 use pool_core::Recorder;
-use pool_driver::{Call, DrivenPool, Effects, Hooks, Report};
+use pool_driver::{Call, DrivenPool, Hooks, Report};
 use pool_journal::{Answer, Input};
 use pool_settings::Settings;
 use std::alloc::{AllocError, Global};
@@ -27,9 +24,9 @@ use std::marker::Model;
 pub struct OpenPool {
     pub(crate) driven: DrivenPool,
     // The number of calls in progress.
-    running: u64,
+    pub(crate) running: u64,
     // The host's number of the pool.
-    number: u64,
+    pub(crate) number: u64,
     // Which calls its factory has.
     pub(crate) hooks: Hooks,
 }
@@ -54,10 +51,10 @@ fn ends_loan(expected: Answer) -> bool
     !matches!(expected, Answer::Refused(_) | Answer::Gone)
 }
 
-// Goes on with a call after a report. Returns what C reads of what the host does next; `None` if the report does not fit
-// the last action.
+/// Goes on with a call after a report. Returns what C reads of what the host does next; `None` if the report does not fit
+/// the last action.
 #[inline(always)]
-fn go_on(
+pub(crate) fn go_on(
     driven: &mut DrivenPool,
     call: &mut Call,
     caller: u32,
@@ -74,9 +71,9 @@ fn go_on(
     Some(CallEffects::of(&made, &call.operation(), wake))
 }
 
-// The number of calls in progress after one began, up to 2^64 - 1.
+/// Returns the number of calls in progress after one began, up to 2^64 - 1.
 #[inline(always)]
-fn running_with(running: u64, is_running: bool) -> u64
+pub(crate) fn running_with(running: u64, is_running: bool) -> u64
     ensures { result ≡ running_with is_running running }
 {
     if is_running {
@@ -128,160 +125,6 @@ impl OpenPool {
         ensures { result.now ≡ self.now.driven.core }
     {
         self.driven.core()
-    }
-
-    // Begins a call of this kind.
-    #[inline(never)]
-    fn begin_as(
-        &mut self,
-        start: &CallStart,
-        kind: Kind,
-        host: &mut HostCall,
-        effects: &mut CallEffects,
-    ) -> Status
-        requires { kind_at start.now.kind ≡ Some kind }
-        ensures { BeginsTo start.now self.old self.new host.old host.new effects.old effects.new
-            result }
-    {
-        let mut call = start.call(&self.driven, kind);
-        let report = Report::GoOn;
-        match go_on(&mut self.driven, &mut call, start.caller, start.at, report) {
-            Some(next) => {
-                *effects = next;
-                let is_running = host.keep(self.number, &call);
-                self.running = running_with(self.running, is_running);
-                Status::Done
-            }
-            None => unreachable!(),
-        }
-    }
-
-    // Tells the host what it does next of a call that has begun, and keeps the call.
-    #[inline(always)]
-    fn tell_begun(
-        &mut self,
-        call: &Call,
-        made: &Effects,
-        host: &mut HostCall,
-        effects: &mut CallEffects,
-    )
-        ensures { (start : CallStart) (old : OpenModel) (first : Call) (kind : Kind)
-            → Begins old.driven.plan first → IsKind start old.driven.last kind first
-            → Begun start.caller (max start.at old.driven.last) old.driven self.old.driven first
-            call.now made.now → self.old ≡ record old { driven = self.old.driven }
-            → Began start old self.new host.new effects.new kind }
-    {
-        let wake = self.driven.next_wake();
-        *effects = CallEffects::of(made, &call.operation(), wake);
-        let is_running = host.keep(self.number, call);
-        self.running = running_with(self.running, is_running);
-    }
-
-    // Begins a borrow whose host works on an idle object, as a rule.
-    #[inline(never)]
-    fn begin_taken(
-        &mut self,
-        start: &CallStart,
-        host: &mut HostCall,
-        effects: &mut CallEffects,
-    ) -> Status
-        requires { kind_at start.now.kind ≡ Some Kind.Borrow }
-        ensures { BeginsTo start.now self.old self.new host.old host.new effects.old effects.new
-            result }
-    {
-        let mut call = start.call(&self.driven, Kind::Borrow);
-        match self.driven.begin_taken(&mut call, start.caller, start.at) {
-            Some(made) => {
-                self.tell_begun(&call, &made, host, effects);
-                Status::Done
-            }
-            None => self.begin_as(start, Kind::Borrow, host, effects),
-        }
-    }
-
-    // Begins a return whose host works on its object, as a rule.
-    #[inline(never)]
-    fn begin_checked(
-        &mut self,
-        start: &CallStart,
-        host: &mut HostCall,
-        effects: &mut CallEffects,
-    ) -> Status
-        requires { kind_at start.now.kind ≡ Some Kind.Return }
-        ensures { BeginsTo start.now self.old self.new host.old host.new effects.old effects.new
-            result }
-    {
-        let mut call = start.call(&self.driven, Kind::Return);
-        match self.driven.begin_checked(&mut call, start.caller, start.at) {
-            Some(made) => {
-                self.tell_begun(&call, &made, host, effects);
-                Status::Done
-            }
-            None => self.begin_as(start, Kind::Return, host, effects),
-        }
-    }
-
-    // Begins a borrow, which is lent an object at once, as a rule.
-    #[inline(always)]
-    fn begin_borrow(
-        &mut self,
-        start: &CallStart,
-        host: &mut HostCall,
-        effects: &mut CallEffects,
-    ) -> Status
-        requires { kind_at start.now.kind ≡ Some Kind.Borrow }
-        ensures { BeginsTo start.now self.old self.new host.old host.new effects.old effects.new
-            result }
-    {
-        let mut call = start.call(&self.driven, Kind::Borrow);
-        match self.driven.begin_lent(&mut call, start.caller, start.at) {
-            Some(made) => {
-                self.tell_begun(&call, &made, host, effects);
-                Status::Done
-            }
-            None => self.begin_taken(start, host, effects),
-        }
-    }
-
-    // Begins a return, whose object is idle at once, as a rule.
-    #[inline(always)]
-    fn begin_return(
-        &mut self,
-        start: &CallStart,
-        host: &mut HostCall,
-        effects: &mut CallEffects,
-    ) -> Status
-        requires { kind_at start.now.kind ≡ Some Kind.Return }
-        ensures { BeginsTo start.now self.old self.new host.old host.new effects.old effects.new
-            result }
-    {
-        let mut call = start.call(&self.driven, Kind::Return);
-        match self.driven.begin_parked(&mut call, start.caller, start.at) {
-            Some(made) => {
-                self.tell_begun(&call, &made, host, effects);
-                Status::Done
-            }
-            None => self.begin_checked(start, host, effects),
-        }
-    }
-
-    /// Begins a call.
-    #[inline(always)]
-    pub(crate) fn begin(
-        &mut self,
-        start: &CallStart,
-        host: &mut HostCall,
-        effects: &mut CallEffects,
-    ) -> Status
-        ensures { BeginsTo start.now self.old self.new host.old host.new effects.old effects.new
-            result }
-    {
-        match start.kind() {
-            Some(Kind::Borrow) => self.begin_borrow(start, host, effects),
-            Some(Kind::Return) => self.begin_return(start, host, effects),
-            Some(kind) => self.begin_as(start, kind, host, effects),
-            None => Status::BadRequest,
-        }
     }
 
     /// Goes on with a call after a report.

@@ -1,0 +1,170 @@
+//! How each call of a pool for C begins.
+ghost use Rattle.std.specs.Prelude.{◌≡◌, max, Some};
+ghost use Rattle.pool_driver.specs.Beginning.{Begun};
+ghost use Rattle.pool_driver.specs.Driving.{Begins};
+ghost use Rattle.zuphinka.specs.CallCodes.{kind_at};
+ghost use Rattle.zuphinka.specs.Calling.{Began, BeginsTo, IsKind};
+ghost use Rattle.zuphinka.specs.Opening.{OpenModel};
+
+use crate::call_effects::CallEffects;
+use crate::host_call::HostCall;
+use crate::open_pool::{OpenPool, go_on, running_with};
+use crate::starting::{CallStart, Kind};
+use crate::status::Status;
+use pool_driver::{Call, Effects, Report};
+
+impl OpenPool {
+    // Begins a call of this kind.
+    #[inline(never)]
+    fn begin_as(
+        &mut self,
+        start: &CallStart,
+        kind: Kind,
+        host: &mut HostCall,
+        effects: &mut CallEffects,
+    ) -> Status
+        requires { kind_at start.now.kind ≡ Some kind }
+        ensures { BeginsTo start.now self.old self.new host.old host.new effects.old effects.new
+            result }
+    {
+        let mut call = start.call(&self.driven, kind);
+        let report = Report::GoOn;
+        match go_on(&mut self.driven, &mut call, start.caller, start.at, report) {
+            Some(next) => {
+                *effects = next;
+                let is_running = host.keep(self.number, &call);
+                self.running = running_with(self.running, is_running);
+                Status::Done
+            }
+            None => unreachable!(),
+        }
+    }
+
+    // Tells the host what it does next of a call that has begun, and keeps the call.
+    #[inline(always)]
+    fn tell_begun(
+        &mut self,
+        call: &Call,
+        made: &Effects,
+        host: &mut HostCall,
+        effects: &mut CallEffects,
+    )
+        ensures { (start : CallStart) (old : OpenModel) (first : Call) (kind : Kind)
+            → Begins old.driven.plan first → IsKind start old.driven.last kind first
+            → Begun start.caller (max start.at old.driven.last) old.driven self.old.driven first
+            call.now made.now → self.old ≡ record old { driven = self.old.driven }
+            → Began start old self.new host.new effects.new kind }
+    {
+        let wake = self.driven.next_wake();
+        *effects = CallEffects::of(made, &call.operation(), wake);
+        let is_running = host.keep(self.number, call);
+        self.running = running_with(self.running, is_running);
+    }
+
+    // Begins a borrow whose host works on an idle object, as a rule.
+    #[inline(never)]
+    fn begin_taken(
+        &mut self,
+        start: &CallStart,
+        host: &mut HostCall,
+        effects: &mut CallEffects,
+    ) -> Status
+        requires { kind_at start.now.kind ≡ Some Kind.Borrow }
+        ensures { BeginsTo start.now self.old self.new host.old host.new effects.old effects.new
+            result }
+    {
+        let mut call = start.call(&self.driven, Kind::Borrow);
+        match self.driven.begin_taken(&mut call, start.caller, start.at) {
+            Some(made) => {
+                self.tell_begun(&call, &made, host, effects);
+                Status::Done
+            }
+            None => self.begin_as(start, Kind::Borrow, host, effects),
+        }
+    }
+
+    // Begins a return whose host works on its object, as a rule.
+    #[inline(never)]
+    fn begin_checked(
+        &mut self,
+        start: &CallStart,
+        host: &mut HostCall,
+        effects: &mut CallEffects,
+    ) -> Status
+        requires { kind_at start.now.kind ≡ Some Kind.Return }
+        ensures { BeginsTo start.now self.old self.new host.old host.new effects.old effects.new
+            result }
+    {
+        let mut call = start.call(&self.driven, Kind::Return);
+        match self.driven.begin_checked(&mut call, start.caller, start.at) {
+            Some(made) => {
+                self.tell_begun(&call, &made, host, effects);
+                Status::Done
+            }
+            None => self.begin_as(start, Kind::Return, host, effects),
+        }
+    }
+
+    // Begins a borrow, which is lent an object at once, as a rule.
+    #[inline(always)]
+    fn begin_borrow(
+        &mut self,
+        start: &CallStart,
+        host: &mut HostCall,
+        effects: &mut CallEffects,
+    ) -> Status
+        requires { kind_at start.now.kind ≡ Some Kind.Borrow }
+        ensures { BeginsTo start.now self.old self.new host.old host.new effects.old effects.new
+            result }
+    {
+        let mut call = start.call(&self.driven, Kind::Borrow);
+        match self.driven.begin_lent(&mut call, start.caller, start.at) {
+            Some(made) => {
+                self.tell_begun(&call, &made, host, effects);
+                Status::Done
+            }
+            None => self.begin_taken(start, host, effects),
+        }
+    }
+
+    // Begins a return, whose object is idle at once, as a rule.
+    #[inline(always)]
+    fn begin_return(
+        &mut self,
+        start: &CallStart,
+        host: &mut HostCall,
+        effects: &mut CallEffects,
+    ) -> Status
+        requires { kind_at start.now.kind ≡ Some Kind.Return }
+        ensures { BeginsTo start.now self.old self.new host.old host.new effects.old effects.new
+            result }
+    {
+        let mut call = start.call(&self.driven, Kind::Return);
+        match self.driven.begin_parked(&mut call, start.caller, start.at) {
+            Some(made) => {
+                self.tell_begun(&call, &made, host, effects);
+                Status::Done
+            }
+            None => self.begin_checked(start, host, effects),
+        }
+    }
+
+    /// Begins a call.
+    #[inline(always)]
+    pub(crate) fn begin(
+        &mut self,
+        start: &CallStart,
+        host: &mut HostCall,
+        effects: &mut CallEffects,
+    ) -> Status
+        ensures { BeginsTo start.now self.old self.new host.old host.new effects.old effects.new
+            result }
+    {
+        match start.kind() {
+            Some(Kind::Borrow) => self.begin_borrow(start, host, effects),
+            Some(Kind::Return) => self.begin_return(start, host, effects),
+            Some(kind) => self.begin_as(start, kind, host, effects),
+            None => Status::BadRequest,
+        }
+    }
+}
