@@ -3,13 +3,13 @@ ghost use Rattle.std.specs.Prelude.{◌≡◌, ◌+◌, is_some, OnErr, MatchRes
 ghost use Rattle.pool_journal.specs.Text.{IsRequest};
 ghost use Rattle.pool_journal.specs.Carrying.{carries};
 ghost use Rattle.pool_engines.specs.Made.{IsProducedFrom};
-ghost use Rattle.pool_engines.specs.Step.{Answers, Refuses, fault_at};
+ghost use Rattle.pool_engines.specs.Step.{Answers, Refuses, fault_at, with_answer};
 ghost use Rattle.pool_engines.specs.Engine.{IsOwnFault};
 ghost use Rattle.pool_core.specs.Stepper.{ForEveryHistory, pool_of};
 
 use crate::engine_fault::EngineFault;
 use pool_core::{StepFault, Stepper};
-use pool_journal::{Entry, Input, Outcome, Request};
+use pool_journal::{Answer, Input, Outcome, Request};
 
 /// Returns the number of the next entry's line.
 pub(crate) fn line_number(stepper: &Stepper<u64>) -> u64
@@ -54,19 +54,19 @@ impl Refusal {
     }
 }
 
-/// Takes the step that a request asks for, and returns its entry. On an error the pool is unchanged.
+/// Takes the step that a request asks for, and returns its answer. On an error the pool is unchanged.
 #[inline(always)]
-pub(crate) fn step(stepper: &mut Stepper<u64>, request: &Request) -> Result<Entry, Refusal>
+pub(crate) fn step(stepper: &mut Stepper<u64>, request: &Request) -> Result<Answer, Refusal>
     requires asked { IsRequest request.now }
     ensures stepped { ForEveryHistory stepper.old
         (λ b J. IsProducedFrom stepper.old.settings b J → MatchResult result
-        (Answers request.now b J stepper.old stepper.new)
+        (λ answer. Answers request.now b J stepper.old stepper.new (with_answer request.now answer))
         (Refuses (pool_of stepper.old b J) request.now)) }
     ensures unchanged_on_error { OnErr result (stepper.new ≡ stepper.old) }
 {
     let Request { caller, at, input } = *request;
     match stepper.step(caller, at, input, value_of(&input)) {
-        Ok((entry, _)) => Ok(entry),
+        Ok((entry, _)) => Ok(entry.answer),
         Err(StepFault::JournalFull(_)) => Err(Refusal::Full),
         Err(StepFault::OutOfMemory(_)) => Err(Refusal::OutOfMemory),
     }
