@@ -1,4 +1,4 @@
--- Calls that are over by two steps, one after the other, since their hosts are asked nothing.
+-- The usual course of a borrow and of a return: an answer, and two steps one after the other.
 use Rattle.std.specs.Prelude.{◌≡◌, ℕ, false, Some}
 use Rattle.pool_journal.specs.declared.answer.Answer.{Answer}
 use Rattle.pool_journal.specs.declared.answer.Answer.TheVariants as answers

@@ -1,5 +1,5 @@
 //! The tickets of the borrows that wait, in the order of arrival: which are signalled, and whom a borrow may overtake.
-ghost use Rattle.std.specs.Prelude.{◌≡◌, ◌≤◌, ◌<◌, ◌+◌, ◌-◌, ◌^◌, ◌++◌, ◌∷◌, [], true, false, max, min, if◌then◌else◌, map, length, slice_get, IfOk, IfSome, IfNone, OnOk, OnErr, IsOk};
+ghost use Rattle.std.specs.Prelude.{◌≡◌, ◌==◌, ◌≤◌, ◌<◌, ◌+◌, ◌-◌, ◌^◌, ◌++◌, ◌∷◌, [], true, false, max, min, if◌then◌else◌, map, length, slice_get, IfOk, IfSome, IfNone, OnOk, OnErr, IsOk};
 ghost use Rattle.std.specs.Option.{option_map};
 ghost use Rattle.std.specs.List.{AllByRecursion};
 ghost use Rattle.sorted_index.specs.Pairs.{first_of};
@@ -87,6 +87,15 @@ impl Waiters {
         ensures few { length self.now.waiting + self.now.spare < 2 ^ 63 }
     {
         self.signalled.len() + self.asleep.len()
+    }
+
+    /// Returns whether no ticket waits.
+    #[inline(always)]
+    pub fn is_empty(&self) -> bool
+        ensures value { result ≡ (length self.now.waiting == 0) }
+        ensures signalled { result ≡ true → self.now.signalled ≡ 0 }
+    {
+        self.signalled.is_empty() && self.asleep.is_empty()
     }
 
     /// Reserves memory for `count` more tickets. If there is no memory, nothing changes.
@@ -247,8 +256,7 @@ impl Waiters {
           overtakes = self.new.overtakes;
         } }
     {
-        let count = self.len() as u64;
-        if count > 0 && count >= available {
+        if !self.is_empty() && self.len() as u64 >= available {
             self.overtakes += 1;
         }
     }

@@ -1,7 +1,8 @@
 -- The present pairs among the stored ones.
-use Rattle.std.proofs.Common.{◌≡◌, ℕ, ◌+◌, ◌<◌, Bool, true, false, not, cond, List, [], ◌∷◌, ◌++◌, length, refl, ap, ◌∙◌, arith}
-use Rattle.std.specs.Prelude.{count_by, filter}
+use Rattle.std.proofs.Common.{◌≡◌, ◌==◌, ℕ, suc, ◌+◌, ◌<◌, Bool, true, false, not, cond, List, [], ◌∷◌, ◌++◌, length, refl, ap, sym, ◌∙◌, arith}
+use Rattle.std.specs.Prelude.{count_by, filter, map}
 use Rattle.std.specs.List.{AllByRecursion}
+use Rattle.std.proofs.lemmas.Bool.Decides.{nat_tests}
 use Rattle.std.proofs.lemmas.List.{length-map, map-append}
 use Rattle.std.proofs.lemmas.List.Sums.{length-filter, sum_by-cons}
 use Rattle.std.proofs.lemmas.List.Filters.{length-filter_both}
@@ -9,7 +10,7 @@ use Rattle.std.proofs.lemmas.List.Elements.{filter-append}
 use Rattle.sorted_index.specs.declared.pair.Pair.{Pair}
 use Rattle.sorted_index.specs.declared.stored.Stored.{Stored}
 use Rattle.sorted_index.specs.Pairs.{IsAscending}
-use Rattle.sorted_index.specs.Marks.{all_in, pairs_in, is_there}
+use Rattle.sorted_index.specs.Marks.{all_in, pairs_in, is_there, starts_gone}
 
 pub all_there : (P : Pair → Type 0) (ss : List Stored) → AllByRecursion P (all_in ss) → AllByRecursion P (pairs_in ss)
 all_there P [] all = tt
@@ -58,3 +59,15 @@ none_marked (s ∷ ss) none = by_mark s.is_gone refl (none_marked ss)
     by_mark : (b : Bool) → s.is_gone ≡ b → (count_by (λ s. s.is_gone) ss ≡ 0 → filter is_there ss ≡ ss) → filter is_there (s ∷ ss) ≡ s ∷ ss
     by_mark true is later = absurd (omega (arith, none, sum_by-cons (λ (t : Stored). cond t.is_gone 1 0) s ss, weighs_one s.is_gone is))
     by_mark false is later = ap (λ b. cond (not b) (s ∷ filter is_there ss) (filter is_there ss)) is ∙ ap (λ ts. s ∷ ts) (later (omega (arith, none, sum_by-cons (λ (t : Stored). cond t.is_gone 1 0) s ss)))
+
+some_left : (n : ℕ) → (suc n == 0) ≡ false
+some_left n = grind (arith, nat_tests)
+
+-- a queue whose first pair is present has one exactly if some are stored
+pub empty_alike : (ss : List Stored) → starts_gone ss ≡ false → (length ss == 0) ≡ (length (pairs_in ss) == 0)
+empty_alike [] first = refl
+empty_alike (s ∷ ss) first = by_test s.is_gone first
+  where
+    by_test : (b : Bool) → b ≡ false → (length (s ∷ ss) == 0) ≡ (length (map (λ (t : Stored). t.pair) (cond (not b) (s ∷ filter is_there ss) (filter is_there ss))) == 0)
+    by_test true is = absurd (cc is)
+    by_test false is = some_left (length ss) ∙ sym (some_left (length (pairs_in ss)))

@@ -1,5 +1,5 @@
 //! A queue of keys in ascending order of id: how keys are added at its ends, found and removed.
-ghost use Rattle.std.specs.Prelude.{◌≡◌, ◌≤◌, ◌<◌, ◌^◌, ◌++◌, ◌∷◌, [], IfNone, OnOk, OnErr, length};
+ghost use Rattle.std.specs.Prelude.{◌≡◌, ◌==◌, ◌≤◌, ◌<◌, ◌^◌, ◌++◌, ◌∷◌, [], IfNone, OnOk, OnErr, length};
 ghost use Rattle.std.specs.Option.{option_to_list};
 ghost use Rattle.sorted_index.specs.Pairs.{first_of, has_id, without, IdsAbove, IdsBelow, IsAscending};
 
@@ -56,6 +56,14 @@ impl SortedQueue {
         ensures few { self.now.capacity < 2 ^ 63 }
     {
         self.stored.len() - self.gone
+    }
+
+    /// Returns whether there is no pair.
+    #[inline(always)]
+    pub fn is_empty(&self) -> bool
+        ensures { result ≡ (length self.now.pairs == 0) }
+    {
+        self.stored.is_empty()
     }
 
     /// Reserves memory for `count` pairs in all. If there is no memory, nothing changes.

@@ -1,13 +1,14 @@
-//! A borrow and a return that are over at once, by both of their steps.
+//! A borrow and a return in their usual course, as the values that they come to: by one step, and by both at once.
 ghost use Rattle.std.specs.Prelude.{◌≡◌, true, Some, IfSome};
 ghost use Rattle.pool_journal.specs.declared.input.Input.TheVariants as inputs;
-ghost use Rattle.pool_calls.specs.AtOnce.{IsLent, IsParked};
+ghost use Rattle.pool_calls.specs.AtOnce.{Goes, IsLent, IsParked};
 ghost use Rattle.pool_calls.specs.Operations.{step_at};
 
 use super::Operation;
 use crate::action::End;
 use crate::kind::Kind;
 use crate::stage::{Place, Request};
+use pool_journal::Answer;
 
 impl Operation {
     // Whether the call asks as those of its kind do.
@@ -31,6 +32,19 @@ impl Operation {
             given_up: self.given_up,
             tally: self.tally,
             place: Place::Ended(end),
+        }
+    }
+
+    /// Returns the call as it is after this answer to its step, if a borrow or a return has that in its usual course.
+    #[inline(always)]
+    pub fn after_usual(&self, answer: Answer) -> Option<Operation>
+        ensures { IfSome result (Goes answer self.now) }
+    {
+        let mut after = *self;
+        if after.tell_usual_answer(answer) {
+            Some(after)
+        } else {
+            None
         }
     }
 

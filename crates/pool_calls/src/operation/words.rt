@@ -8,6 +8,7 @@ use super::Operation;
 use crate::stage::Place;
 use crate::tally::Tally;
 use crate::words::{PlaceWords, PlanWords, flag, is_set, kind_in, words_of_kind};
+use pool_journal::Answer;
 
 /// A call in progress as plain numbers.
 #[repr(C)]
@@ -56,6 +57,17 @@ impl Operation {
 }
 
 impl OperationWords {
+    /// Returns the answer by which a borrow or a return ends as a rule, if the factory works for it. It is a hint: the numbers
+    /// may be no call's.
+    #[inline(always)]
+    pub fn usual_end(&self) -> Option<Answer> {
+        match (self.place, self.kind) {
+            (1, 1) => Some(Answer::Lent),
+            (1, 2) => Some(Answer::Parked),
+            _ => None,
+        }
+    }
+
     #[inline(always)]
     fn place(&self) -> PlaceWords
         ensures { result ≡ place_of self.now }
