@@ -1,3 +1,4 @@
+pub mod Going
 pub mod Moving
 pub mod Overtaking
 pub mod Queueing

@@ -1,4 +1,4 @@
-pub mod Beginning
+pub mod Going
 pub mod Driving
 pub mod Overtaking
 pub mod Queueing

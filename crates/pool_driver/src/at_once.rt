@@ -10,15 +10,17 @@ use crate::pool::DrivenPool;
 use pool_journal::{Answer, Input};
 
 impl DrivenPool {
-    // Whether a borrow of an idle object has its host do something, or removes abandoned objects first.
-    fn asks_at_borrow(&self) -> bool
+    /// Returns whether a borrow of an idle object has its host do something, or removes abandoned objects first.
+    #[inline(always)]
+    pub fn asks_at_borrow(&self) -> bool
         ensures { result ≡ asks_at_borrow self.now.plan }
     {
         self.plan.activates || self.plan.test_on_borrow || self.plan.remove_abandoned_on_borrow
     }
 
-    // Whether a return has its host do something.
-    fn asks_at_return(&self) -> bool
+    /// Returns whether a return has its host do something.
+    #[inline(always)]
+    pub fn asks_at_return(&self) -> bool
         ensures { result ≡ asks_at_return self.now.plan }
     {
         self.plan.passivates || self.plan.test_on_return

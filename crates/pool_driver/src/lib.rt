@@ -6,7 +6,6 @@ mod at_once;
 mod beginning;
 mod call;
 mod effects;
-mod first_steps;
 mod hooks;
 mod journal;
 mod options;
@@ -14,6 +13,7 @@ mod pool;
 mod report;
 mod stepping;
 mod usual;
+mod usual_steps;
 mod waiting;
 mod words;
 

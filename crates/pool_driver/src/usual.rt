@@ -1,18 +1,19 @@
 //! The usual course of a borrow and of a return: an idle object is taken, and a lent one comes back. Where the host need
 //! not be asked, both steps are taken at once.
-ghost use Rattle.std.specs.Prelude.{◌≡◌, true, false, Some, IfSome};
+ghost use Rattle.std.specs.Prelude.{◌≡◌, true, false, None, Some, IfSome};
 ghost use Rattle.pool_calls.specs.Operations.{lacks_room, step_at};
+ghost use Rattle.pool_core.specs.Core.{Answered};
 ghost use Rattle.pool_core.specs.Reply.{has_room, reply_from};
 ghost use Rattle.pool_journal.specs.Base.{closed_from, records_from};
 ghost use Rattle.pool_journal.specs.declared.answer.Answer.TheVariants as answers;
 ghost use Rattle.pool_journal.specs.declared.input.Input.TheVariants as inputs;
-ghost use Rattle.pool_driver.specs.Driving.{IsAvailable, TakesFirst, may_come_in};
-ghost use Rattle.pool_driver.specs.Overtaking.{CountsOvertakes, is_newcomer};
+ghost use Rattle.pool_journal.specs.declared.input.Outcome.TheVariants as outcomes;
+ghost use Rattle.pool_driver.specs.Driving.{IsAvailable, TakesFirst, handed, may_come_in};
+ghost use Rattle.pool_driver.specs.Overtaking.{CountsOvertakes, is_borrow, is_newcomer};
 
 use crate::call::Call;
 use crate::pool::DrivenPool;
-use crate::stepping::tell_answer;
-use pool_journal::{Answer, Input};
+use pool_journal::{Answer, Input, Outcome};
 
 impl DrivenPool {
     /// Returns whether the queue of idle objects takes one more.
@@ -92,6 +93,9 @@ impl DrivenPool {
         ensures unchanged { result ≡ false → (self.new ≡ self.old) × (call.new ≡ call.old) }
         ensures longer { call.new.longer ≡ call.old.longer }
     {
+        let Some(taken) = call.operation.after_usual(Answer::Take(id)) else {
+            return false;
+        };
         let input = Input::Borrow { began };
         let Ok(out) = self
             .core
@@ -99,8 +103,9 @@ impl DrivenPool {
         else {
             return false;
         };
-        tell_answer(call, Answer::Take(id), out);
         self.note_found(call, available);
+        call.operation = taken;
+        call.token = out.unwrap_or(call.token);
         true
     }
 
@@ -137,9 +142,6 @@ impl DrivenPool {
         ensures unchanged { result ≡ false → (self.new ≡ self.old) × (call.new ≡ call.old) }
         ensures longer { call.new.longer ≡ call.old.longer }
     {
-        if call.operation.lent_at_once(0).is_none() {
-            return false;
-        }
         match self.idle_for(call, at, began) {
             Some((id, available)) => self.lend_idle(call, caller, at, began, id, available),
             None => false,
@@ -165,60 +167,122 @@ impl DrivenPool {
         }
     }
 
-    // Takes a lent object back by both steps of a return, if its host need not be asked and the queue has room. Returns
-    // whether it did; otherwise nothing changes.
+    // Has a returned object checked, if that is the expected answer. Returns whether it did; otherwise nothing
+    // changes.
+    #[inline(never)]
+    fn check(&mut self, caller: u32, at: u64, id: u64) -> bool
+        ensures answered { result ≡ true → Answered caller at (inputs.GiveBack id) None
+            self.old.core self.new.core answers.Check None }
+        ensures rest { self.new ≡ record self.old { core = self.new.core } }
+        ensures unchanged { result ≡ false → self.new ≡ self.old }
+    {
+        let input = Input::GiveBack { id };
+        if self.is_to_forget() || !matches!(self.core.due(at, input), Answer::Check) {
+            return false;
+        }
+        match self.core.complete(caller, at, input, Answer::Check, None) {
+            None => true,
+            Some(_) => unreachable!(),
+        }
+    }
+
+    // Lends an object that is ready and good, if that is the expected answer. Returns whether it did; otherwise nothing
+    // changes.
+    #[inline(never)]
+    fn lend(&mut self, caller: u32, at: u64, id: u64) -> bool
+        ensures answered { result ≡ true → Answered caller at (inputs.Ready id outcomes.Good) None
+            self.old.core self.new.core answers.Lent None }
+        ensures rest { self.new ≡ record self.old { core = self.new.core } }
+        ensures unchanged { result ≡ false → self.new ≡ self.old }
+    {
+        let outcome = Outcome::Good;
+        let input = Input::Ready { id, outcome };
+        if self.is_to_forget() || !matches!(self.core.due(at, input), Answer::Lent) {
+            return false;
+        }
+        match self.core.complete(caller, at, input, Answer::Lent, None) {
+            None => true,
+            Some(_) => unreachable!(),
+        }
+    }
+
+    // Makes a returned object idle that is good, if that is the expected answer. Returns whether it did; otherwise nothing
+    // changes.
+    #[inline(never)]
+    fn park(&mut self, caller: u32, at: u64, id: u64, token: u64) -> bool
+        ensures answered { result ≡ true → Answered caller at (inputs.Park id outcomes.Good) (Some token)
+            self.old.core self.new.core answers.Parked None }
+        ensures rest { self.new ≡ record self.old { core = self.new.core } }
+        ensures unchanged { result ≡ false → self.new ≡ self.old }
+    {
+        let outcome = Outcome::Good;
+        let input = Input::Park { id, outcome };
+        if self.is_to_forget() || !matches!(self.core.due(at, input), Answer::Parked) {
+            return false;
+        }
+        match self
+            .core
+            .complete(caller, at, input, Answer::Parked, Some(token))
+        {
+            None => true,
+            Some(_) => unreachable!(),
+        }
+    }
+
+    // Takes a step by which a borrow or a return goes on in its usual course, if this is the expected answer. Returns whether it
+    // did; otherwise nothing changes.
     #[inline(always)]
-    fn park_lent(&mut self, call: &mut Call, caller: u32, at: u64, id: u64) -> bool
-        requires asked { step_at call.old.operation ≡ Some (inputs.GiveBack id) }
-        requires due { answers.Check ≡ reply_from self.old.core.settings self.old.core.base
-            self.old.core.journal at (inputs.GiveBack id) }
-        ensures moves { result ≡ true → TakesFirst (inputs.GiveBack id) true caller at self.old
-            self.new call.old call.new }
+    fn step_usual(&mut self, caller: u32, at: u64, input: Input, answer: Answer, token: u64) -> bool
+        ensures answered { result ≡ true → Answered caller at input (handed input token)
+            self.old.core self.new.core answer None }
+        ensures rest { self.new ≡ record self.old { core = self.new.core } }
+        ensures unchanged { result ≡ false → self.new ≡ self.old }
+    {
+        match (input, answer) {
+            (Input::GiveBack { id }, Answer::Check) => self.check(caller, at, id),
+            (Input::Ready { id, outcome }, Answer::Lent) => {
+                matches!(outcome, Outcome::Good) && self.lend(caller, at, id)
+            }
+            (Input::Park { id, outcome }, Answer::Parked) => {
+                matches!(outcome, Outcome::Good) && self.park(caller, at, id, token)
+            }
+            _ => false,
+        }
+    }
+
+    /// Takes a step that is not a borrow's first, if the expected answer is this one, which its call has in its usual course.
+    /// Returns whether it did; otherwise nothing changes.
+    #[inline(always)]
+    pub(crate) fn take_usual(
+        &mut self,
+        call: &mut Call,
+        caller: u32,
+        at: u64,
+        input: Input,
+        answer: Answer,
+    ) -> bool
+        requires asked { step_at call.old.operation ≡ Some input }
+        requires other { is_borrow input ≡ false }
+        ensures moves { result ≡ true
+            → TakesFirst input true caller at self.old self.new call.old call.new }
         ensures overtakes { result ≡ true
             → CountsOvertakes caller at self.old self.new call.old call.new }
         ensures room { result ≡ true → lacks_room call.new.operation ≡ false }
         ensures unchanged { result ≡ false → (self.new ≡ self.old) × (call.new ≡ call.old) }
         ensures longer { call.new.longer ≡ call.old.longer }
     {
-        let Some(parked) = call.operation.parked_at_once(id) else {
+        let Some(after) = call.operation.after_usual(answer) else {
             return false;
         };
-        if !self.has_idle_room() {
+        if !self.step_usual(caller, at, input, answer, call.token) {
             return false;
         }
-        self.core.park_lent(caller, at, id, call.token);
-        call.operation = parked;
+        call.operation = after;
         true
     }
 
-    // Has a lent object checked by the first step of its return.
-    #[inline(always)]
-    fn check_lent(&mut self, call: &mut Call, caller: u32, at: u64, id: u64)
-        requires asked { step_at call.old.operation ≡ Some (inputs.GiveBack id) }
-        requires due { answers.Check ≡ reply_from self.old.core.settings self.old.core.base
-            self.old.core.journal at (inputs.GiveBack id) }
-        ensures moves { TakesFirst (inputs.GiveBack id) true caller at self.old self.new call.old
-            call.new }
-        ensures overtakes { CountsOvertakes caller at self.old self.new call.old call.new }
-        ensures room { lacks_room call.new.operation ≡ false }
-        ensures longer { call.new.longer ≡ call.old.longer }
-    {
-        let input = Input::GiveBack { id };
-        let out = self.core.complete(caller, at, input, Answer::Check, None);
-        tell_answer(call, Answer::Check, out);
-    }
-
-    // Whether a lent object comes back by a return that begins.
-    #[inline(always)]
-    fn is_returned(&self, at: u64, id: u64) -> bool
-        ensures { result ≡ true → answers.Check ≡ reply_from self.now.core.settings
-            self.now.core.base self.now.core.journal at (inputs.GiveBack id) }
-    {
-        !self.is_to_forget() && matches!(self.core.due(at, Input::GiveBack { id }), Answer::Check)
-    }
-
-    /// A return gives its lent object back by both of its steps, if its host need not be asked. Returns whether it did; otherwise
-    /// nothing changes.
+    /// A return gives its lent object back by both of its steps, if its host need not be asked and the queue has room. Returns
+    /// whether it did; otherwise nothing changes.
     #[inline(always)]
     pub(crate) fn return_whole(&mut self, call: &mut Call, caller: u32, at: u64, id: u64) -> bool
         requires asked { step_at call.old.operation ≡ Some (inputs.GiveBack id) }
@@ -230,27 +294,17 @@ impl DrivenPool {
         ensures unchanged { result ≡ false → (self.new ≡ self.old) × (call.new ≡ call.old) }
         ensures longer { call.new.longer ≡ call.old.longer }
     {
-        call.operation.parked_at_once(id).is_some()
-            && self.is_returned(at, id)
-            && self.park_lent(call, caller, at, id)
-    }
-
-    /// A return has its lent object checked by its first step. Returns whether the object is lent; otherwise nothing changes.
-    #[inline(always)]
-    pub(crate) fn return_lent(&mut self, call: &mut Call, caller: u32, at: u64, id: u64) -> bool
-        requires asked { step_at call.old.operation ≡ Some (inputs.GiveBack id) }
-        ensures moves { result ≡ true → TakesFirst (inputs.GiveBack id) true caller at self.old
-            self.new call.old call.new }
-        ensures overtakes { result ≡ true
-            → CountsOvertakes caller at self.old self.new call.old call.new }
-        ensures room { result ≡ true → lacks_room call.new.operation ≡ false }
-        ensures unchanged { result ≡ false → (self.new ≡ self.old) × (call.new ≡ call.old) }
-        ensures longer { call.new.longer ≡ call.old.longer }
-    {
-        if !self.is_returned(at, id) {
+        let Some(parked) = call.operation.parked_at_once(id) else {
+            return false;
+        };
+        if self.is_to_forget() || !self.has_idle_room() {
             return false;
         }
-        self.check_lent(call, caller, at, id);
+        let Answer::Check = self.core.due(at, Input::GiveBack { id }) else {
+            return false;
+        };
+        self.core.park_lent(caller, at, id, call.token);
+        call.operation = parked;
         true
     }
 }

@@ -245,7 +245,7 @@ impl DrivenPool {
     pub(crate) fn available_to_newcomer(&self) -> u64
         ensures { IsAvailable self.now result }
     {
-        if self.waiters.len() == 0 {
+        if self.waiters.is_empty() {
             0
         } else {
             self.available()
@@ -360,10 +360,10 @@ impl DrivenPool {
         ensures value { result ≡ may_come_in available self.old }
         ensures kept { self.new ≡ self.old }
     {
-        let waiting = self.waiters.len() as u64;
-        if waiting == 0 {
+        if self.waiters.is_empty() {
             return true;
         }
+        let waiting = self.waiters.len() as u64;
         if self.holds_back && self.waiters.is_limited() && available <= waiting {
             return false;
         }

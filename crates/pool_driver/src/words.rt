@@ -6,6 +6,7 @@ ghost use Rattle.pool_driver.specs.Words.{Reads, ReadsNone};
 
 use crate::call::Call;
 use pool_calls::OperationWords;
+use pool_journal::Answer;
 
 /// A call in progress as plain numbers.
 #[repr(C)]
@@ -40,6 +41,13 @@ impl Call {
 }
 
 impl CallWords {
+    /// Returns the answer by which a borrow or a return ends as a rule, if the factory works for it. It is a hint: the numbers
+    /// may be no call's.
+    #[inline(always)]
+    pub fn usual_end(&self) -> Option<Answer> {
+        self.operation.usual_end()
+    }
+
     /// Returns the call that has these numbers, if there is one.
     #[inline(always)]
     pub fn call(&self) -> Option<Call>

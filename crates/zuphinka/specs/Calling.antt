@@ -1,5 +1,5 @@
 -- The calls in progress from C: what begins them, what follows a report, and what the host is told.
-use Rattle.std.specs.Prelude.{◌≡◌, ℕ, ◌+◌, ◌-◌, ◌^◌, if◌then◌else◌, max, min, not, Bool, true, false, List, [], Option, Some, None, is_some, unwrap_or, IsSomeAnd, length}
+use Rattle.std.specs.Prelude.{◌≡◌, ℕ, ◌+◌, ◌-◌, ◌^◌, if◌then◌else◌, max, min, not, Bool, true, false, Option, Some, None, is_some, unwrap_or, IsSomeAnd, length}
 use Rattle.pool_journal.specs.Base.{closed_from}
 use Rattle.pool_journal.specs.declared.answer.Answer.{Answer}
 use Rattle.pool_journal.specs.declared.answer.Answer.TheVariants as answers
@@ -7,12 +7,11 @@ use Rattle.pool_journal.specs.declared.input.Input.{Input}
 use Rattle.pool_journal.specs.declared.input.Input.TheVariants as inputs
 use Rattle.pool_journal.specs.declared.input.When.TheVariants as times
 use Rattle.pool_core.specs.Reply.{reply_from}
-use Rattle.pool_calls.specs.Operations.{HasCome, IsRight, began_of, is_over, step_at}
-use Rattle.pool_calls.specs.Turns.{Turn, asks_room, is_done}
+use Rattle.pool_calls.specs.Operations.{began_of, is_over, step_at}
 use Rattle.pool_calls.specs.Waiting.{IsSettled, Signals, most_overtaken}
 use Rattle.pool_calls.specs.declared.operation.Operation.{Operation}
-use Rattle.pool_driver.specs.Driving.{DrivenModel, Begins, ChecksAtOnce, GoesFrom, IsTold, LendsAtOnce, Moves, TakesAtOnce, TakesBackAtOnce, available_in, detaches, fits_report, is_low_in, told, until_of}
-use Rattle.pool_driver.specs.Overtaking.{CountsOvertakes}
+use Rattle.pool_driver.specs.Driving.{DrivenModel, Begins, ChecksAtOnce, LendsAtOnce, TakesAtOnce, TakesBackAtOnce, available_in, detaches, fits_report}
+use Rattle.pool_driver.specs.Going.{WentOn}
 use Rattle.pool_driver.specs.declared.call.Call.{Call}
 use Rattle.pool_driver.specs.declared.effects.Effects.{Effects}
 use Rattle.pool_driver.specs.declared.report.Report.{Report}
@@ -55,25 +54,12 @@ Wakes old new None = (new ≡ record old { queue = record old.queue { signalled 
 Wakes old new (Some ticket) =
     (new ≡ record old { queue = record old.queue { signalled = new.queue.signalled } }) × Signals (available_in old.core) old.queue new.queue ticket
 
--- a call goes on after a report that fits what the host was asked to do, and C reads what it does next. A pool that drops its
--- journal asks for room only while no entry is stored
+-- a call goes on after a report that fits what the host was asked to do, and C reads what it does next
 pub record GoesOn (caller at : ℕ) (report : Report) (old new : DrivenModel) (before after : Call) (out : CallEffects) : Type 0 where
   pub effects : Effects
   pub between : DrivenModel  -- before a call is woken
   pub wake : Option ℕ
-  pub fits : fits_report report before.operation ≡ true
-  pub moves : Moves caller (max at old.last) old between (told report before) after
-  pub tells : (mid : Operation) × IsTold report old (max at old.last) before mid × GoesFrom (step_at mid) caller (max at old.last) old between (record before { operation = mid; token = (told report before).token }) after × CountsOvertakes caller (max at old.last) old between (record before { operation = mid; token = (told report before).token }) after
-  pub last : between.last ≡ max at old.last
-  pub action : (turns : List Turn) → HasCome after.operation turns → IsRight after.operation turns effects.action
-  pub over : is_done effects.action ≡ is_over after.operation
-  pub ended : is_done effects.action ≡ true → after.ticket ≡ None
-  pub token : effects.token ≡ after.token
-  pub ticket : effects.ticket ≡ after.ticket
-  pub until : effects.until ≡ until_of between.core.settings after
-  pub longer : after.longer ≡ before.longer
-  pub room : asks_room effects.action ≡ true → old.drops ≡ true → between.core.journal ≡ []
-  pub low : effects.is_low ≡ is_low_in between.core
+  pub went : WentOn report caller (max at old.last) old between before after effects
   pub wakes : Wakes between new wake
   pub read : IsReadAs effects after.operation wake out
 

@@ -1,20 +1,22 @@
 //! How each call of a pool for C begins.
 ghost use Rattle.std.specs.Prelude.{◌≡◌, max, Some};
-ghost use Rattle.pool_driver.specs.Beginning.{Begun};
 ghost use Rattle.pool_driver.specs.Driving.{Begins};
+ghost use Rattle.pool_driver.specs.Going.{WentOn};
+ghost use Rattle.pool_driver.specs.declared.report.Report.TheVariants as reports;
 ghost use Rattle.zuphinka.specs.CallCodes.{kind_at};
 ghost use Rattle.zuphinka.specs.Calling.{Began, BeginsTo, IsKind};
 ghost use Rattle.zuphinka.specs.Opening.{OpenModel};
 
 use crate::call_effects::CallEffects;
 use crate::host_call::HostCall;
-use crate::open_pool::{OpenPool, go_on, running_with};
+use crate::open_pool::{OpenPool, running_with};
 use crate::starting::{CallStart, Kind};
 use crate::status::Status;
 use pool_driver::{Call, Effects, Report};
 
 impl OpenPool {
     // Begins a call of this kind.
+    #[cold]
     #[inline(never)]
     fn begin_as(
         &mut self,
@@ -28,12 +30,10 @@ impl OpenPool {
             result }
     {
         let mut call = start.call(&self.driven, kind);
-        let report = Report::GoOn;
-        match go_on(&mut self.driven, &mut call, start.caller, start.at, report) {
-            Some(next) => {
-                *effects = next;
-                let is_running = host.keep(self.number, &call);
-                self.running = running_with(self.running, is_running);
+        let (caller, at) = (start.caller, start.at);
+        match self.driven.advance(&mut call, caller, at, Report::GoOn) {
+            Some(made) => {
+                self.tell_begun(&call, &made, host, effects);
                 Status::Done
             }
             None => unreachable!(),
@@ -51,13 +51,11 @@ impl OpenPool {
     )
         ensures { (start : CallStart) (old : OpenModel) (first : Call) (kind : Kind)
             → Begins old.driven.plan first → IsKind start old.driven.last kind first
-            → Begun start.caller (max start.at old.driven.last) old.driven self.old.driven first
-            call.now made.now → self.old ≡ record old { driven = self.old.driven }
+            → WentOn reports.GoOn start.caller (max start.at old.driven.last) old.driven
+            self.old.driven first call.now made.now → self.old ≡ record old { driven = self.old.driven }
             → Began start old self.new host.new effects.new kind }
     {
-        let wake = self.driven.next_wake();
-        *effects = CallEffects::of(made, &call.operation(), wake);
-        let is_running = host.keep(self.number, call);
+        let is_running = self.tell(call, made, host, effects);
         self.running = running_with(self.running, is_running);
     }
 
@@ -105,9 +103,9 @@ impl OpenPool {
         }
     }
 
-    // Begins a borrow, which is lent an object at once, as a rule.
+    // Begins a borrow whose host does nothing for an idle object. It is lent one at once, as a rule.
     #[inline(always)]
-    fn begin_borrow(
+    fn begin_lent(
         &mut self,
         start: &CallStart,
         host: &mut HostCall,
@@ -123,13 +121,13 @@ impl OpenPool {
                 self.tell_begun(&call, &made, host, effects);
                 Status::Done
             }
-            None => self.begin_taken(start, host, effects),
+            None => self.begin_as(start, Kind::Borrow, host, effects),
         }
     }
 
-    // Begins a return, whose object is idle at once, as a rule.
+    // Begins a return whose host does nothing for its object. That is idle at once, as a rule.
     #[inline(always)]
-    fn begin_return(
+    fn begin_parked(
         &mut self,
         start: &CallStart,
         host: &mut HostCall,
@@ -145,7 +143,45 @@ impl OpenPool {
                 self.tell_begun(&call, &made, host, effects);
                 Status::Done
             }
-            None => self.begin_checked(start, host, effects),
+            None => self.begin_as(start, Kind::Return, host, effects),
+        }
+    }
+
+    // Begins a borrow in the usual course of its pool.
+    #[inline(always)]
+    fn begin_borrow(
+        &mut self,
+        start: &CallStart,
+        host: &mut HostCall,
+        effects: &mut CallEffects,
+    ) -> Status
+        requires { kind_at start.now.kind ≡ Some Kind.Borrow }
+        ensures { BeginsTo start.now self.old self.new host.old host.new effects.old effects.new
+            result }
+    {
+        if self.driven.asks_at_borrow() {
+            self.begin_taken(start, host, effects)
+        } else {
+            self.begin_lent(start, host, effects)
+        }
+    }
+
+    // Begins a return in the usual course of its pool.
+    #[inline(always)]
+    fn begin_return(
+        &mut self,
+        start: &CallStart,
+        host: &mut HostCall,
+        effects: &mut CallEffects,
+    ) -> Status
+        requires { kind_at start.now.kind ≡ Some Kind.Return }
+        ensures { BeginsTo start.now self.old self.new host.old host.new effects.old effects.new
+            result }
+    {
+        if self.driven.asks_at_return() {
+            self.begin_checked(start, host, effects)
+        } else {
+            self.begin_parked(start, host, effects)
         }
     }
 

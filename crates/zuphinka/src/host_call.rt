@@ -3,6 +3,7 @@ ghost use Rattle.std.specs.Prelude.{◌≡◌, not, IfSome, IfNone};
 ghost use Rattle.pool_calls.specs.Operations.{is_over};
 
 use pool_driver::{Call, CallWords};
+use pool_journal::Answer;
 
 /// The mark of a struct that has a call in progress: the bytes `zuphinka`.
 const MARK: u64 = 0x616b_6e69_6870_757a;
@@ -25,6 +26,13 @@ const _: () = prove!(size_of::<HostCall>() == 104);
 
 impl HostCall {
     ghost use Rattle.zuphinka.specs.HostCalls.{Holds, HoldsNone, Keeps};
+
+    /// Returns the answer by which its call ends as a rule, if it is a borrow or a return for which the factory works. It is a
+    /// hint: there may be no call.
+    #[inline(always)]
+    pub(crate) fn usual_end(&self) -> Option<Answer> {
+        self.words.usual_end()
+    }
 
     /// Returns the call in progress of the pool with this number, if the struct has one.
     #[inline(always)]

@@ -1,9 +1,15 @@
 //! A pool for C: what each export of the library works on.
-ghost use Rattle.std.specs.Prelude.{◌≡◌, IfNone, IfOk, IfSome};
-ghost use Rattle.std.specs.Option.{is_some};
-ghost use Rattle.pool_driver.specs.Driving.{Opened, fits_report};
-ghost use Rattle.zuphinka.specs.Calling.{AdvancesTo, ChecksTo, GoesOn, LendsTo, LimitsOvertakes, ReportsState, TakesBackTo, TakesTo, WakesTo, ends_loan, is_lent_in, running_after, running_with};
-ghost use Rattle.zuphinka.specs.Opening.{options_of};
+ghost use Rattle.std.specs.Prelude.{◌≡◌, ℕ, IfOk, Some, max, not};
+ghost use Rattle.pool_calls.specs.Operations.{is_over};
+ghost use Rattle.pool_driver.specs.Driving.{DrivenModel, Opened};
+ghost use Rattle.pool_driver.specs.Going.{WentOn};
+ghost use Rattle.pool_driver.specs.declared.call.Call.{Call};
+ghost use Rattle.pool_driver.specs.declared.report.Report.{Report};
+ghost use Rattle.zuphinka.specs.HostCalls.{Keeps};
+ghost use Rattle.zuphinka.specs.CallCodes.{report_of};
+ghost use Rattle.zuphinka.specs.Calling.{Advanced, AdvancesTo, ChecksTo, GoesOn, LendsTo, LimitsOvertakes, ReportsState, TakesBackTo, TakesTo, WakesTo, ends_loan, is_lent_in, running_after, running_with};
+ghost use Rattle.zuphinka.specs.Opening.{OpenModel, options_of};
+ghost use Rattle.zuphinka.specs.declared.event.CallEvent.{CallEvent};
 
 use crate::call_effects::CallEffects;
 use crate::event::CallEvent;
@@ -13,7 +19,7 @@ use crate::pool_options::PoolOptions;
 use crate::pool_state::PoolState;
 use crate::status::Status;
 use pool_core::Recorder;
-use pool_driver::{Call, DrivenPool, Hooks, Report};
+use pool_driver::{Call, DrivenPool, Effects, Hooks, Report};
 use pool_journal::{Answer, Input};
 use pool_settings::Settings;
 use std::alloc::{AllocError, Global};
@@ -49,26 +55,6 @@ fn ends_loan(expected: Answer) -> bool
     ensures { result ≡ ends_loan expected }
 {
     !matches!(expected, Answer::Refused(_) | Answer::Gone)
-}
-
-/// Goes on with a call after a report. Returns what C reads of what the host does next; `None` if the report does not fit
-/// the last action.
-#[inline(always)]
-pub(crate) fn go_on(
-    driven: &mut DrivenPool,
-    call: &mut Call,
-    caller: u32,
-    at: u64,
-    report: Report,
-) -> Option<CallEffects>
-    ensures goes { IfSome result (λ r. GoesOn caller at report driven.old driven.new call.old
-        call.new r) }
-    ensures fits { is_some result ≡ fits_report report call.old.operation }
-    ensures unfit { IfNone result ((driven.new ≡ driven.old) × (call.new ≡ call.old)) }
-{
-    let made = driven.advance(call, caller, at, report)?;
-    let wake = driven.next_wake();
-    Some(CallEffects::of(&made, &call.operation(), wake))
 }
 
 /// Returns the number of calls in progress after one began, up to 2^64 - 1.
@@ -127,8 +113,50 @@ impl OpenPool {
         self.driven.core()
     }
 
-    /// Goes on with a call after a report.
-    pub(crate) fn advance(
+    /// Tells the host of a call that went on what it does next, and keeps the call. Returns whether it is in progress.
+    #[inline(always)]
+    pub(crate) fn tell(
+        &mut self,
+        call: &Call,
+        made: &Effects,
+        host: &mut HostCall,
+        effects: &mut CallEffects,
+    ) -> bool
+        ensures goes { (report : Report) (caller at : ℕ) (old : DrivenModel) (before : Call)
+            → WentOn report caller (max at old.last) old self.old.driven before call.now made.now
+            → GoesOn caller at report old self.new.driven before call.now effects.new }
+        ensures keeps { Keeps (is_over call.now.operation) self.old.number host.new call.now }
+        ensures running { result ≡ not (is_over call.now.operation) }
+        ensures rest { self.new ≡ record self.old { driven = self.new.driven } }
+    {
+        let wake = self.driven.next_wake();
+        *effects = CallEffects::of(made, &call.operation(), wake);
+        host.keep(self.number, call)
+    }
+
+    // Tells the host of a call in progress that went on what it does next, and keeps the call.
+    #[inline(always)]
+    fn tell_advanced(
+        &mut self,
+        call: &Call,
+        made: &Effects,
+        host: &mut HostCall,
+        effects: &mut CallEffects,
+    )
+        ensures { (event : CallEvent) (report : Report) (old : OpenModel) (before : Call)
+            → report_of event ≡ Some report
+            → WentOn report event.caller (max event.at old.driven.last) old.driven
+            self.old.driven before call.now made.now → self.old ≡ record old { driven = self.old.driven }
+            → Advanced event old self.new host.new effects.new before }
+    {
+        let is_running = self.tell(call, made, host, effects);
+        self.running = running_after(self.running, is_running);
+    }
+
+    // Goes on with any call after a report.
+    #[cold]
+    #[inline(never)]
+    fn advance_any(
         &mut self,
         host: &mut HostCall,
         event: &CallEvent,
@@ -143,14 +171,70 @@ impl OpenPool {
         let Some(report) = event.report() else {
             return Status::BadRequest;
         };
-        match go_on(&mut self.driven, &mut call, event.caller, event.at, report) {
-            Some(next) => {
-                *effects = next;
-                let is_running = host.keep(self.number, &call);
-                self.running = running_after(self.running, is_running);
+        match self
+            .driven
+            .advance(&mut call, event.caller, event.at, report)
+        {
+            Some(made) => {
+                self.tell_advanced(&call, &made, host, effects);
                 Status::Done
             }
             None => Status::Misfit,
+        }
+    }
+
+    // Goes on with a call that ends once its factory has done its work, as a rule: a borrow, or a return.
+    #[inline(always)]
+    fn advance_by<const IS_BORROW: bool>(
+        &mut self,
+        host: &mut HostCall,
+        event: &CallEvent,
+        effects: &mut CallEffects,
+    ) -> Status
+        ensures { AdvancesTo event.now self.old self.new host.old host.new effects.old effects.new
+            result }
+    {
+        let Some(mut call) = host.find(self.number) else {
+            return Status::NoCall;
+        };
+        let Some(report) = event.report() else {
+            return self.advance_any(host, event, effects);
+        };
+        let Report::Succeeded = report else {
+            return self.advance_any(host, event, effects);
+        };
+        let answer = if IS_BORROW {
+            Answer::Lent
+        } else {
+            Answer::Parked
+        };
+        match self
+            .driven
+            .end_by(&mut call, event.caller, event.at, answer)
+        {
+            Some(made) => {
+                self.tell_advanced(&call, &made, host, effects);
+                Status::Done
+            }
+            None => self.advance_any(host, event, effects),
+        }
+    }
+
+    /// Goes on with a call after a report.
+    #[inline(always)]
+    pub(crate) fn advance(
+        &mut self,
+        host: &mut HostCall,
+        event: &CallEvent,
+        effects: &mut CallEffects,
+    ) -> Status
+        ensures { AdvancesTo event.now self.old self.new host.old host.new effects.old effects.new
+            result }
+    {
+        match host.usual_end() {
+            Some(Answer::Lent) => self.advance_by::<true>(host, event, effects),
+            Some(Answer::Parked) => self.advance_by::<false>(host, event, effects),
+            _ => self.advance_any(host, event, effects),
         }
     }
 

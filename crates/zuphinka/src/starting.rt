@@ -40,14 +40,19 @@ pub struct CallStart {
     pub kind: u32,
 }
 
-// Returns the kind with this code, if it is one.
+// Returns the kind with this code, if it is one. Most calls borrow or return, so their codes are looked at first.
 #[inline(always)]
 fn kind_at(code: u32) -> Option<Kind>
     ensures { result ≡ kind_at code }
 {
+    if code < 3 {
+        return match code {
+            1 => Some(Kind::Borrow),
+            2 => Some(Kind::Return),
+            _ => None,
+        };
+    }
     match code {
-        1 => Some(Kind::Borrow),
-        2 => Some(Kind::Return),
         3 => Some(Kind::Invalidate),
         4 => Some(Kind::Detach),
         5 => Some(Kind::Touch),

@@ -1,24 +1,26 @@
-use Rattle.std.proofs.Common.{◌≡◌, ◌∙◌, ℕ, true, Option, Some, ap, max, sym, subst}
-use Rattle.std.specs.Option.{is_some}
-use Rattle.pool_journal.specs.declared.input.Input.{Input}
-use Rattle.pool_driver.specs.Beginning.{Begun}
-use Rattle.pool_driver.specs.Driving.{DrivenModel, GoesFrom}
+use Rattle.std.proofs.Common.{ℕ, Option, Some, None, max, subst}
+use Rattle.std.specs.Option.{IfSome}
+use Rattle.pool_driver.specs.Driving.{DrivenModel}
+use Rattle.pool_driver.specs.Going.{WentOn}
+use Rattle.pool_driver.specs.declared.effects.Effects.{Effects}
+use Rattle.pool_driver.specs.declared.report.Report.TheVariants as reports
+use Rattle.pool_driver.proofs.Going.{heard_none}
 use Rattle.pool_driver.proofs.pool.DrivenPool.begin_checked.Goals as goal
 
-pub returns-clause-begun : goal.returns-clause-begun
-returns-clause-begun c =
+-- what follows from a fact that is known of a value if there is one
+if_known : (r : Option Effects) (P : Type 0) (Q : Effects → Type 0) → IfSome r (λ e. P) → (P → IfSome r Q) → IfSome r Q
+if_known None P Q known follows = tt
+if_known (Some e) P Q known follows = follows known
+
+pub returns-clause-went : goal.returns-clause-went
+returns-clause-went c =
     let old = c.args.self.now in
     let call = c.args.call.now in
-    let last = c.begun.new in
-    let usual = c.return_lent.new in
+    let last = c.step_by.new in
+    let r = c.step_by.result in
+    let did = c.step_by.ensures in
     let time : ℕ = c.max-at.result in
-    let took : c.return_lent.result ≡ true = c.if-not-return_lent.false in
-    let first = c.return_lent.ensures.moves took in
-    let step = sym (ap (λ i. Some i) c.in-GiveBack.is) ∙ c.in-Step.ensures.step in
-    let F : Option Input → Type 0 = λ s. GoesFrom s c.args.caller time old usual.self call usual.call in
-    let goes = subst F step (record { moves = first.moves; starts = first.starts }) in
-    let asked = ap (λ s. is_some s) (sym step) in
-    let begun = c.begun.ensures c.args.caller old call asked goes (c.return_lent.ensures.overtakes took) (c.return_lent.ensures.room took) c.return_lent.ensures.longer in
-    let P : ℕ → Type 0 = λ n. Begun c.args.caller n old last.self call last.call c.begun.result in
-    let Q : DrivenModel → Type 0 = λ d. Begun c.args.caller (max c.args.at d.last) old last.self call last.call c.begun.result in
-    subst Q c.self.view_is (subst P c.max-at.ensures begun)
+    let went = if_known r _ (WentOn reports.GoOn c.args.caller time old last.self call last.call) did.asked (λ asked. did.went reports.GoOn call (heard_none time old call asked)) in
+    let P : ℕ → Type 0 = λ n. IfSome r (WentOn reports.GoOn c.args.caller n old last.self call last.call) in
+    let Q : DrivenModel → Type 0 = λ d. IfSome r (WentOn reports.GoOn c.args.caller (max c.args.at d.last) old last.self call last.call) in
+    subst Q c.self.view_is (subst P c.max-at.ensures went)

@@ -1,11 +1,12 @@
-use Rattle.std.proofs.Common.{◌≡◌, true, None, refl, sym, ap, subst}
-use Rattle.std.specs.Option.{is_some}
+use Rattle.std.proofs.Common.{◌≡◌, ◌∙◌, true, None, unwrap_or, refl, sym, ap, subst}
 use Rattle.pool_journal.specs.declared.answer.Answer.TheVariants as answers
 use Rattle.pool_journal.specs.declared.input.Input.{Input}
 use Rattle.pool_journal.specs.declared.input.Input.TheVariants as inputs
 use Rattle.pool_calls.specs.Operations.{is_waiting}
-use Rattle.pool_driver.specs.Driving.{DrivenModel, IsAvailable, TakesFirst, may_come_in}
+use Rattle.pool_driver.specs.Driving.{Accepts, DrivenModel, IsAvailable, TakesFirst, may_come_in}
 use Rattle.pool_driver.specs.Overtaking.{CountsOvertakes, is_newcomer}
+use Rattle.pool_driver.specs.declared.call.Call.{Call}
+use Rattle.pool_driver.specs.declared.report.Report.TheVariants as reports
 use Rattle.pool_driver.proofs.Moving.{takes_step, takes_then}
 use Rattle.pool_driver.proofs.Overtaking.{draws_none, passes_asked}
 use Rattle.pool_driver.proofs.Running.{takes_uncut}
@@ -18,12 +19,17 @@ returns-clause-moves c is =
     let here : DrivenModel = record { core = inside.core; queue = inside.waiters; plan = inside.plan; drops = inside.drops; holds_back = inside.holds_back; last = inside.last } in
     let mid : DrivenModel = record here { core = c.step_due.new.self } in
     let call = c.args.call.now in
-    let told = c.tell_answer.ensures in
-    let last = c.note_found.new in
+    let note = c.note_found.ensures in
+    let new = c.note_found.new.self in
+    let token = c.unwrap_or-call.result in
+    let found : Call = record call { operation = c.in-Some.taken; token = token } in
+    let last : Call = record c.note_found.new.call { operation = c.in-Some.taken; token = token } in
     let taken = takes_uncut c.args.caller c.args.at input None here.drops here.core mid.core (answers.Take c.args.id) c.in-Ok.out c.in-Ok.ensures.answered in
-    let first = takes_step input c.args.caller c.args.at (answers.Take c.args.id) c.in-Ok.out here mid call c.tell_answer.new.call c.requires.asked taken told.token (told.comes (ap (λ s. is_some s) c.requires.asked)) refl refl refl told.ticket in
-    let P : DrivenModel → Type 0 = λ d. TakesFirst input true c.args.caller c.args.at d last.self call last.call in
-    subst P c.self.view_is (takes_then input c.args.caller c.args.at true here mid last.self call c.tell_answer.new.call last.call first c.note_found.ensures.accepts)
+    let told = c.unwrap_or-call.ensures ∙ ap (unwrap_or c.in-Ok.out) note.accepts.token in
+    let first = takes_step input c.args.caller c.args.at (answers.Take c.args.id) c.in-Ok.out here mid call found c.requires.asked taken told c.in-Some.ensures.comes refl refl refl refl in
+    let rest : Accepts reports.GoOn mid new found last = record { core = note.accepts.core; rest = note.accepts.rest; token = refl; comes = λ turns come. come; queue = note.accepts.queue } in
+    let P : DrivenModel → Type 0 = λ d. TakesFirst input true c.args.caller c.args.at d new call last in
+    subst P c.self.view_is (takes_then input c.args.caller c.args.at true here mid new call found last first rest)
 
 pub returns-clause-overtakes : goal.returns-clause-overtakes
 returns-clause-overtakes c is =
@@ -32,12 +38,14 @@ returns-clause-overtakes c is =
     let here : DrivenModel = record { core = inside.core; queue = inside.waiters; plan = inside.plan; drops = inside.drops; holds_back = inside.holds_back; last = inside.last } in
     let mid : DrivenModel = record here { core = c.step_due.new.self } in
     let call = c.args.call.now in
-    let told = c.tell_answer.ensures in
-    let last = c.note_found.new in
     let note = c.note_found.ensures in
-    let n = c.args.available in
+    let new = c.note_found.new.self in
+    let token = c.unwrap_or-call.result in
+    let found : Call = record call { operation = c.in-Some.taken; token = token } in
+    let last : Call = record c.note_found.new.call { operation = c.in-Some.taken; token = token } in
     let taken = takes_uncut c.args.caller c.args.at input None here.drops here.core mid.core (answers.Take c.args.id) c.in-Ok.out c.in-Ok.ensures.answered in
+    let n = c.args.available in
     let there = subst (λ (d : DrivenModel). IsAvailable d n) (sym c.self.view_is) c.requires.available in
     let may = λ (newcomer : is_newcomer call ≡ true). subst (λ (d : DrivenModel). may_come_in n d ≡ true) (sym c.self.view_is) (c.requires.may newcomer) in
-    let P : DrivenModel → Type 0 = λ d. CountsOvertakes c.args.caller c.args.at d last.self call last.call in
-    subst P c.self.view_is (passes_asked c.args.caller c.args.at c.args.began n (answers.Take c.args.id) c.in-Ok.out here mid last.self call c.tell_answer.new.call last.call c.requires.asked there may taken refl refl told.ticket told.turn note.accepts.core note.accepts.rest.drops note.served (λ has none. draws_none None last.call.ticket (is_waiting last.call.operation ≡ true) note.ticket has refl) note.others)
+    let P : DrivenModel → Type 0 = λ d. CountsOvertakes c.args.caller c.args.at d new call last in
+    subst P c.self.view_is (passes_asked c.args.caller c.args.at c.args.began n (answers.Take c.args.id) c.in-Ok.out here mid new call found last c.requires.asked there may taken refl refl refl refl note.accepts.core note.accepts.rest.drops note.served (λ has none. draws_none None last.ticket (is_waiting last.operation ≡ true) note.ticket has refl) note.others)

@@ -10,7 +10,7 @@ use Rattle.pool_driver.specs.declared.call.Call.{Call}
 use Rattle.pool_driver.proofs.Moving.{moves_step, takes_on, takes_step}
 use Rattle.pool_driver.proofs.Overtaking.{counts_on, passes_other}
 use Rattle.pool_driver.proofs.Running.{takes_uncut}
-use Rattle.pool_driver.proofs.pool.DrivenPool.park_lent.Goals as goal
+use Rattle.pool_driver.proofs.pool.DrivenPool.return_whole.Goals as goal
 
 pub returns-clause-moves : goal.returns-clause-moves
 returns-clause-moves c is =

@@ -4,22 +4,22 @@ use Rattle.zuphinka.specs.Calling.{Began, BeginsTo}
 use Rattle.zuphinka.specs.Opening.{OpenModel}
 use Rattle.zuphinka.specs.declared.starting.Kind.{Kind}
 use Rattle.zuphinka.specs.declared.starting.Kind.TheVariants as kinds
-use Rattle.zuphinka.proofs.open_pool.OpenPool.begin_return.Goals as goal
+use Rattle.zuphinka.proofs.open_pool.OpenPool.begin_lent.Goals as goal
 
 pub returns-in-Some : goal.returns-in-Some
 returns-in-Some c =
     let inside = c.self.inside in
     let old : OpenModel = record { driven = inside.driven; running = inside.running; number = inside.number; hooks = inside.hooks } in
     let last = c.tell_begun.new in
-    let begun = c.tell_begun.ensures c.args.start.now old c.call-call.result kinds.Return c.call-call.ensures.begins c.call-call.ensures.is c.in-Some.ensures.begun refl in
+    let begun = c.tell_begun.ensures c.args.start.now old c.call-call.result kinds.Borrow c.call-call.ensures.begins c.call-call.ensures.is c.in-Some.ensures.went refl in
     let P : Option Kind → Type 0 = λ k. IsSomeAnd k (Began c.args.start.now c.args.self.now last.self last.host last.effects) in
-    let Q : OpenModel → Type 0 = λ p. Began c.args.start.now p last.self last.host last.effects kinds.Return in
+    let Q : OpenModel → Type 0 = λ p. Began c.args.start.now p last.self last.host last.effects kinds.Borrow in
     subst P (sym c.requires) (subst Q c.self.view_is begun)
 
 pub returns-in-None : goal.returns-in-None
 returns-in-None c =
     let old = c.self.inside in
     let same : DrivenModel → OpenModel = λ d. record { driven = d; running = old.running; number = old.number; hooks = old.hooks } in
-    let last = c.begin_checked.new in
-    let P : OpenModel → Type 0 = λ p. BeginsTo c.args.start.now p last.self c.args.host.now last.host c.args.effects.now last.effects c.begin_checked.result in
-    subst P (ap same c.in-None.ensures.unchanged.0 ∙ c.self.view_is) c.begin_checked.ensures
+    let last = c.begin_as.new in
+    let P : OpenModel → Type 0 = λ p. BeginsTo c.args.start.now p last.self c.args.host.now last.host c.args.effects.now last.effects c.begin_as.result in
+    subst P (ap same c.in-None.ensures.unchanged.0 ∙ c.self.view_is) c.begin_as.ensures
