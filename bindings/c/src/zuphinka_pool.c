@@ -113,19 +113,29 @@ static uint32_t act(struct zuphinka_pool *pool, struct run *run) {
   return has_ended ? ZUPHINKA_REPORT_GIVEN_UP : report;
 }
 
-/* Makes a call from its beginning to its end, with the lock held before and after, and not while a callback runs. Returns its error. */
-static enum zuphinka_pool_error drive(struct zuphinka_pool *pool, struct run *run) {
-  struct zuphinka_call call;
-  uint32_t status = zuphinka_begin(&pool->core, &run->start, &call, &run->next);
+/* Goes on with a call from what it does next to its end, with the lock held before and after, and not while a callback runs. Returns its error. */
+static enum zuphinka_pool_error drive_on(struct zuphinka_pool *pool, struct run *run, struct zuphinka_call *call, uint32_t status) {
+  run->began = 0;
+  run->token = NULL;
+  run->has_made = run->lacks_memory = false;
   while (status == ZUPHINKA_STATUS_DONE) {
     if (run->next.action == ZUPHINKA_ACTION_SLEEP) run->wakes = condition_of(pool, run->next.ticket)->wakes;
     if (run->next.has_wake) wake_from(pool, run->next.wake);
     if (run->next.action == ZUPHINKA_ACTION_DONE) break;
     uint32_t report = act(pool, run);
     struct zuphinka_event event = {run->at.milliseconds, run->token, run->start.caller, report};
-    status = zuphinka_advance(&pool->core, &call, &event, &run->next);
+    status = zuphinka_advance(&pool->core, call, &event, &run->next);
   }
   return error_of_end(pool, run);
+}
+
+/* Makes a call from its beginning to its end, with the lock held before and after, and not while a callback runs. Returns its error. A loan or its end
+ * that needs no callback and wakes nobody is over as it begins. */
+static inline enum zuphinka_pool_error drive(struct zuphinka_pool *pool, struct run *run) {
+  struct zuphinka_call call;
+  uint32_t status = zuphinka_begin(&pool->core, &run->start, &call, &run->next);
+  bool is_over = run->next.end == ZUPHINKA_END_LENT || run->next.end == ZUPHINKA_END_PARKED;
+  return is_over && !run->next.has_wake ? ZUPHINKA_POOL_ERROR_NONE : drive_on(pool, run, &call, status);
 }
 
 /* ---- the calls */
@@ -149,9 +159,11 @@ static enum zuphinka_pool_error borrow(struct zuphinka_pool *pool, int64_t limit
   keep_room(pool, &run);
   run.start.at += !pool->host.now; /* the clock was rounded down, and a wait is as long as it is to be */
   enum zuphinka_pool_error error = drive(pool, &run);
-  pool->measures.timeouts += error == ZUPHINKA_POOL_ERROR_TIMED_OUT;
-  if (!error) begin_loan(pool, &run, loan);
-  else store_cut(pool, &run); /* otherwise the next borrow does: this one's loan has begun */
+  if (!error) begin_loan(pool, &run, loan); /* the next call stores what it cut: the loan has begun */
+  else {
+    pool->measures.timeouts += error == ZUPHINKA_POOL_ERROR_TIMED_OUT;
+    store_cut(pool, &run);
+  }
   unlock(pool);
   return error;
 }

@@ -79,7 +79,7 @@ struct change {
 /* ---- time and numbers of threads */
 
 /* Returns the time by the pool's clock, without the lock. */
-static struct moment time_of(const struct zuphinka_pool *pool) {
+static inline struct moment time_of(const struct zuphinka_pool *pool) {
   if (pool->host.now) {
     uint64_t now = pool->host.now(pool->host.context);
     return (struct moment){now, now * (uint64_t)MILLISECOND};
@@ -105,11 +105,9 @@ uint32_t zuphinka_pool_caller(void) {
 static void begin_run(const struct zuphinka_pool *pool, struct run *run, uint32_t kind, int64_t limit) {
   run->start = (struct zuphinka_start){.kind = kind, .caller = zuphinka_pool_caller()};
   run->next.end = ZUPHINKA_END_NONE;
-  run->began = 0;
   run->limit = limit;
   run->loan = NULL;
-  run->token = NULL;
-  run->has_made = run->lacks_memory = run->has_cut = false;
+  run->has_cut = false;
   read_clock(pool, run);
   run->first = run->at.nanoseconds;
 }
