@@ -1,10 +1,11 @@
 -- How a call goes on after a report.
-use Rattle.std.specs.Prelude.{◌≡◌, ℕ, true, List, [], None}
-use Rattle.pool_calls.specs.Operations.{HasCome, IsRight, is_over, step_at}
+use Rattle.std.specs.Prelude.{◌≡◌, ℕ, true, false, List, [], None}
+use Rattle.pool_journal.specs.declared.input.Input.{Input}
+use Rattle.pool_calls.specs.Operations.{HasCome, IsRight, is_over, lacks_room, step_at}
 use Rattle.pool_calls.specs.Turns.{Turn, asks_room, is_done}
 use Rattle.pool_calls.specs.declared.action.Action.{Action}
 use Rattle.pool_calls.specs.declared.operation.Operation.{Operation}
-use Rattle.pool_driver.specs.Driving.{Accepts, DrivenModel, GoesFrom, IsNext, IsTold, LacksRoomOnlyEmpty, Moves, fits_report, is_low_in, told, until_of}
+use Rattle.pool_driver.specs.Driving.{Accepts, DrivenModel, GoesFrom, IsNext, IsTold, LacksRoomOnlyEmpty, Moves, TakesFirst, fits_report, is_low_in, told, until_of}
 use Rattle.pool_driver.specs.Overtaking.{CountsOvertakes, Hears}
 use Rattle.pool_driver.specs.declared.call.Call.{Call}
 use Rattle.pool_driver.specs.declared.effects.Effects.{Effects}
@@ -16,6 +17,13 @@ pub record Heard (report : Report) (at : ℕ) (old new : DrivenModel) (before af
   pub told : IsTold report old at before after.operation
   pub accepts : Accepts report old new before after
   pub hears : Hears old new before after
+  pub longer : after.longer ≡ before.longer
+
+-- a call took this step, and others that followed at once, and does not lack room
+pub record Stepped (input : Input) (caller at : ℕ) (old new : DrivenModel) (before after : Call) : Type 0 where
+  pub takes : TakesFirst input true caller at old new before after
+  pub overtakes : CountsOvertakes caller at old new before after
+  pub room : lacks_room after.operation ≡ false
   pub longer : after.longer ≡ before.longer
 
 -- a call took the steps that it asked for, and has come to this action

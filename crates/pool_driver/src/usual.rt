@@ -1,15 +1,16 @@
 //! The usual course of a borrow and of a return: an idle object is taken, and a lent one comes back. Where the host need
 //! not be asked, both steps are taken at once.
 ghost use Rattle.std.specs.Prelude.{◌≡◌, true, false, None, Some, IfSome};
-ghost use Rattle.pool_calls.specs.Operations.{lacks_room, step_at};
+ghost use Rattle.pool_calls.specs.Operations.{step_at};
 ghost use Rattle.pool_core.specs.Core.{Answered};
 ghost use Rattle.pool_core.specs.Reply.{has_room, reply_from};
 ghost use Rattle.pool_journal.specs.Base.{closed_from, records_from};
 ghost use Rattle.pool_journal.specs.declared.answer.Answer.TheVariants as answers;
 ghost use Rattle.pool_journal.specs.declared.input.Input.TheVariants as inputs;
 ghost use Rattle.pool_journal.specs.declared.input.Outcome.TheVariants as outcomes;
-ghost use Rattle.pool_driver.specs.Driving.{IsAvailable, TakesFirst, handed, may_come_in};
-ghost use Rattle.pool_driver.specs.Overtaking.{CountsOvertakes, is_borrow, is_newcomer};
+ghost use Rattle.pool_driver.specs.Driving.{IsAvailable, handed, may_come_in};
+ghost use Rattle.pool_driver.specs.Going.{Stepped};
+ghost use Rattle.pool_driver.specs.Overtaking.{is_borrow, is_newcomer};
 
 use crate::call::Call;
 use crate::pool::DrivenPool;
@@ -49,13 +50,9 @@ impl DrivenPool {
             self.old.core.journal at (inputs.Borrow began) }
         requires available { IsAvailable self.old available }
         requires may { is_newcomer call.old ≡ true → may_come_in available self.old ≡ true }
-        ensures moves { result ≡ true → TakesFirst (inputs.Borrow began) true caller at self.old
-            self.new call.old call.new }
-        ensures overtakes { result ≡ true
-            → CountsOvertakes caller at self.old self.new call.old call.new }
-        ensures room { result ≡ true → lacks_room call.new.operation ≡ false }
+        ensures stepped { result ≡ true
+            → Stepped (inputs.Borrow began) caller at self.old self.new call.old call.new }
         ensures unchanged { result ≡ false → (self.new ≡ self.old) × (call.new ≡ call.old) }
-        ensures longer { call.new.longer ≡ call.old.longer }
     {
         let Some(lent) = call.operation.lent_at_once(id) else {
             return false;
@@ -85,13 +82,9 @@ impl DrivenPool {
             self.old.core.journal at (inputs.Borrow began) }
         requires available { IsAvailable self.old available }
         requires may { is_newcomer call.old ≡ true → may_come_in available self.old ≡ true }
-        ensures moves { result ≡ true → TakesFirst (inputs.Borrow began) true caller at self.old
-            self.new call.old call.new }
-        ensures overtakes { result ≡ true
-            → CountsOvertakes caller at self.old self.new call.old call.new }
-        ensures room { result ≡ true → lacks_room call.new.operation ≡ false }
+        ensures stepped { result ≡ true
+            → Stepped (inputs.Borrow began) caller at self.old self.new call.old call.new }
         ensures unchanged { result ≡ false → (self.new ≡ self.old) × (call.new ≡ call.old) }
-        ensures longer { call.new.longer ≡ call.old.longer }
     {
         let Some(taken) = call.operation.after_usual(Answer::Take(id)) else {
             return false;
@@ -134,13 +127,9 @@ impl DrivenPool {
     #[inline(always)]
     pub(crate) fn borrow_whole(&mut self, call: &mut Call, caller: u32, at: u64, began: u64) -> bool
         requires asked { step_at call.old.operation ≡ Some (inputs.Borrow began) }
-        ensures moves { result ≡ true → TakesFirst (inputs.Borrow began) true caller at self.old
-            self.new call.old call.new }
-        ensures overtakes { result ≡ true
-            → CountsOvertakes caller at self.old self.new call.old call.new }
-        ensures room { result ≡ true → lacks_room call.new.operation ≡ false }
+        ensures stepped { result ≡ true
+            → Stepped (inputs.Borrow began) caller at self.old self.new call.old call.new }
         ensures unchanged { result ≡ false → (self.new ≡ self.old) × (call.new ≡ call.old) }
-        ensures longer { call.new.longer ≡ call.old.longer }
     {
         match self.idle_for(call, at, began) {
             Some((id, available)) => self.lend_idle(call, caller, at, began, id, available),
@@ -153,13 +142,9 @@ impl DrivenPool {
     #[inline(always)]
     pub(crate) fn borrow_idle(&mut self, call: &mut Call, caller: u32, at: u64, began: u64) -> bool
         requires asked { step_at call.old.operation ≡ Some (inputs.Borrow began) }
-        ensures moves { result ≡ true → TakesFirst (inputs.Borrow began) true caller at self.old
-            self.new call.old call.new }
-        ensures overtakes { result ≡ true
-            → CountsOvertakes caller at self.old self.new call.old call.new }
-        ensures room { result ≡ true → lacks_room call.new.operation ≡ false }
+        ensures stepped { result ≡ true
+            → Stepped (inputs.Borrow began) caller at self.old self.new call.old call.new }
         ensures unchanged { result ≡ false → (self.new ≡ self.old) × (call.new ≡ call.old) }
-        ensures longer { call.new.longer ≡ call.old.longer }
     {
         match self.idle_for(call, at, began) {
             Some((id, available)) => self.take_idle(call, caller, at, began, id, available),
@@ -263,13 +248,9 @@ impl DrivenPool {
     ) -> bool
         requires asked { step_at call.old.operation ≡ Some input }
         requires other { is_borrow input ≡ false }
-        ensures moves { result ≡ true
-            → TakesFirst input true caller at self.old self.new call.old call.new }
-        ensures overtakes { result ≡ true
-            → CountsOvertakes caller at self.old self.new call.old call.new }
-        ensures room { result ≡ true → lacks_room call.new.operation ≡ false }
+        ensures stepped { result ≡ true
+            → Stepped input caller at self.old self.new call.old call.new }
         ensures unchanged { result ≡ false → (self.new ≡ self.old) × (call.new ≡ call.old) }
-        ensures longer { call.new.longer ≡ call.old.longer }
     {
         let Some(after) = call.operation.after_usual(answer) else {
             return false;
@@ -286,13 +267,9 @@ impl DrivenPool {
     #[inline(always)]
     pub(crate) fn return_whole(&mut self, call: &mut Call, caller: u32, at: u64, id: u64) -> bool
         requires asked { step_at call.old.operation ≡ Some (inputs.GiveBack id) }
-        ensures moves { result ≡ true → TakesFirst (inputs.GiveBack id) true caller at self.old
-            self.new call.old call.new }
-        ensures overtakes { result ≡ true
-            → CountsOvertakes caller at self.old self.new call.old call.new }
-        ensures room { result ≡ true → lacks_room call.new.operation ≡ false }
+        ensures stepped { result ≡ true
+            → Stepped (inputs.GiveBack id) caller at self.old self.new call.old call.new }
         ensures unchanged { result ≡ false → (self.new ≡ self.old) × (call.new ≡ call.old) }
-        ensures longer { call.new.longer ≡ call.old.longer }
     {
         let Some(parked) = call.operation.parked_at_once(id) else {
             return false;

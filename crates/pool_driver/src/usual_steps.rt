@@ -1,11 +1,11 @@
 //! How a borrow and a return go on where they take their usual course: how they begin, and how they end after the factory's
 //! work.
-ghost use Rattle.std.specs.Prelude.{◌≡◌, ℕ, max, false, true, IfNone, IfSome, Some};
+ghost use Rattle.std.specs.Prelude.{◌≡◌, ℕ, max, true, IfNone, IfSome, Some};
 ghost use Rattle.std.specs.Option.{is_some};
-ghost use Rattle.pool_calls.specs.Operations.{lacks_room, step_at};
-ghost use Rattle.pool_driver.specs.Driving.{DrivenModel, TakesFirst};
-ghost use Rattle.pool_driver.specs.Going.{Heard, WentOn};
-ghost use Rattle.pool_driver.specs.Overtaking.{CountsOvertakes, is_borrow};
+ghost use Rattle.pool_calls.specs.Operations.{step_at};
+ghost use Rattle.pool_driver.specs.Driving.{DrivenModel};
+ghost use Rattle.pool_driver.specs.Going.{Heard, Stepped, WentOn};
+ghost use Rattle.pool_driver.specs.Overtaking.{is_borrow};
 ghost use Rattle.pool_driver.specs.declared.call.Call.{Call};
 ghost use Rattle.pool_driver.specs.declared.report.Report.{Report};
 ghost use Rattle.pool_driver.specs.declared.report.Report.TheVariants as reports;
@@ -33,9 +33,7 @@ impl DrivenPool {
         ensures { (report : Report) (caller : ℕ) (old heard : DrivenModel) (before mid : Call)
             (input : Input) → Heard report at old heard before mid
             → step_at mid.operation ≡ Some input
-            → TakesFirst input true caller at heard self.old mid call.old
-            → CountsOvertakes caller at heard self.old mid call.old
-            → lacks_room call.old.operation ≡ false → call.old.longer ≡ mid.longer
+            → Stepped input caller at heard self.old mid call.old
             → WentOn report caller at old self.new before call.new result }
     {
         let action = call.operation.action();

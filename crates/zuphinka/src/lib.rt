@@ -11,6 +11,7 @@ ghost use Rattle.zuphinka.specs.Setting.{SetsTo};
 ghost use Rattle.zuphinka.specs.Status.{status_code};
 ghost use Rattle.zuphinka.specs.declared.status.Status.TheVariants.{Done};
 
+mod advancing;
 mod beginning;
 mod call_effects;
 mod event;

@@ -1,25 +1,15 @@
 //! A pool for C: what each export of the library works on.
-ghost use Rattle.std.specs.Prelude.{◌≡◌, ℕ, IfOk, Some, max, not};
-ghost use Rattle.pool_calls.specs.Operations.{is_over};
-ghost use Rattle.pool_driver.specs.Driving.{DrivenModel, Opened};
-ghost use Rattle.pool_driver.specs.Going.{WentOn};
-ghost use Rattle.pool_driver.specs.declared.call.Call.{Call};
-ghost use Rattle.pool_driver.specs.declared.report.Report.{Report};
-ghost use Rattle.zuphinka.specs.HostCalls.{Keeps};
-ghost use Rattle.zuphinka.specs.CallCodes.{report_of};
-ghost use Rattle.zuphinka.specs.Calling.{Advanced, AdvancesTo, ChecksTo, GoesOn, LendsTo, LimitsOvertakes, ReportsState, TakesBackTo, TakesTo, WakesTo, ends_loan, is_lent_in, running_after, running_with};
-ghost use Rattle.zuphinka.specs.Opening.{OpenModel, options_of};
-ghost use Rattle.zuphinka.specs.declared.event.CallEvent.{CallEvent};
+ghost use Rattle.std.specs.Prelude.{◌≡◌, IfOk};
+ghost use Rattle.pool_driver.specs.Driving.{Opened};
+ghost use Rattle.zuphinka.specs.Calling.{ChecksTo, LendsTo, LimitsOvertakes, ReportsState, TakesBackTo, TakesTo, WakesTo, ends_loan, is_lent_in, running_with};
+ghost use Rattle.zuphinka.specs.Opening.{options_of};
 
-use crate::call_effects::CallEffects;
-use crate::event::CallEvent;
-use crate::host_call::HostCall;
 use crate::loan::Loan;
 use crate::pool_options::PoolOptions;
 use crate::pool_state::PoolState;
 use crate::status::Status;
 use pool_core::Recorder;
-use pool_driver::{Call, DrivenPool, Effects, Hooks, Report};
+use pool_driver::{DrivenPool, Hooks};
 use pool_journal::{Answer, Input};
 use pool_settings::Settings;
 use std::alloc::{AllocError, Global};
@@ -69,18 +59,6 @@ pub(crate) fn running_with(running: u64, is_running: bool) -> u64
     }
 }
 
-// The number of calls in progress after one of them went on.
-#[inline(always)]
-fn running_after(running: u64, is_running: bool) -> u64
-    ensures { result ≡ running_after is_running running }
-{
-    if is_running {
-        running
-    } else {
-        running.saturating_sub(1)
-    }
-}
-
 impl OpenPool {
     /// Opens a pool without objects or calls.
     ///
@@ -111,131 +89,6 @@ impl OpenPool {
         ensures { result.now ≡ self.now.driven.core }
     {
         self.driven.core()
-    }
-
-    /// Tells the host of a call that went on what it does next, and keeps the call. Returns whether it is in progress.
-    #[inline(always)]
-    pub(crate) fn tell(
-        &mut self,
-        call: &Call,
-        made: &Effects,
-        host: &mut HostCall,
-        effects: &mut CallEffects,
-    ) -> bool
-        ensures goes { (report : Report) (caller at : ℕ) (old : DrivenModel) (before : Call)
-            → WentOn report caller (max at old.last) old self.old.driven before call.now made.now
-            → GoesOn caller at report old self.new.driven before call.now effects.new }
-        ensures keeps { Keeps (is_over call.now.operation) self.old.number host.new call.now }
-        ensures running { result ≡ not (is_over call.now.operation) }
-        ensures rest { self.new ≡ record self.old { driven = self.new.driven } }
-    {
-        let wake = self.driven.next_wake();
-        *effects = CallEffects::of(made, &call.operation(), wake);
-        host.keep(self.number, call)
-    }
-
-    // Tells the host of a call in progress that went on what it does next, and keeps the call.
-    #[inline(always)]
-    fn tell_advanced(
-        &mut self,
-        call: &Call,
-        made: &Effects,
-        host: &mut HostCall,
-        effects: &mut CallEffects,
-    )
-        ensures { (event : CallEvent) (report : Report) (old : OpenModel) (before : Call)
-            → report_of event ≡ Some report
-            → WentOn report event.caller (max event.at old.driven.last) old.driven
-            self.old.driven before call.now made.now → self.old ≡ record old { driven = self.old.driven }
-            → Advanced event old self.new host.new effects.new before }
-    {
-        let is_running = self.tell(call, made, host, effects);
-        self.running = running_after(self.running, is_running);
-    }
-
-    // Goes on with any call after a report.
-    #[cold]
-    #[inline(never)]
-    fn advance_any(
-        &mut self,
-        host: &mut HostCall,
-        event: &CallEvent,
-        effects: &mut CallEffects,
-    ) -> Status
-        ensures { AdvancesTo event.now self.old self.new host.old host.new effects.old effects.new
-            result }
-    {
-        let Some(mut call) = host.find(self.number) else {
-            return Status::NoCall;
-        };
-        let Some(report) = event.report() else {
-            return Status::BadRequest;
-        };
-        match self
-            .driven
-            .advance(&mut call, event.caller, event.at, report)
-        {
-            Some(made) => {
-                self.tell_advanced(&call, &made, host, effects);
-                Status::Done
-            }
-            None => Status::Misfit,
-        }
-    }
-
-    // Goes on with a call that ends once its factory has done its work, as a rule: a borrow, or a return.
-    #[inline(always)]
-    fn advance_by<const IS_BORROW: bool>(
-        &mut self,
-        host: &mut HostCall,
-        event: &CallEvent,
-        effects: &mut CallEffects,
-    ) -> Status
-        ensures { AdvancesTo event.now self.old self.new host.old host.new effects.old effects.new
-            result }
-    {
-        let Some(mut call) = host.find(self.number) else {
-            return Status::NoCall;
-        };
-        let Some(report) = event.report() else {
-            return self.advance_any(host, event, effects);
-        };
-        let Report::Succeeded = report else {
-            return self.advance_any(host, event, effects);
-        };
-        let answer = if IS_BORROW {
-            Answer::Lent
-        } else {
-            Answer::Parked
-        };
-        match self
-            .driven
-            .end_by(&mut call, event.caller, event.at, answer)
-        {
-            Some(made) => {
-                self.tell_advanced(&call, &made, host, effects);
-                Status::Done
-            }
-            None => self.advance_any(host, event, effects),
-        }
-    }
-
-    /// Goes on with a call after a report.
-    #[inline(always)]
-    pub(crate) fn advance(
-        &mut self,
-        host: &mut HostCall,
-        event: &CallEvent,
-        effects: &mut CallEffects,
-    ) -> Status
-        ensures { AdvancesTo event.now self.old self.new host.old host.new effects.old effects.new
-            result }
-    {
-        match host.usual_end() {
-            Some(Answer::Lent) => self.advance_by::<true>(host, event, effects),
-            Some(Answer::Parked) => self.advance_by::<false>(host, event, effects),
-            _ => self.advance_any(host, event, effects),
-        }
     }
 
     /// Lends an idle object at once.

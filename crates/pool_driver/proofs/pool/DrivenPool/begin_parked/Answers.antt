@@ -11,10 +11,9 @@ returns-clause-went c =
     let old = c.args.self.now in
     let call = c.args.call.now in
     let took : c.return_whole.result ≡ true = c.if-not-return_whole.false in
-    let did = c.return_whole.ensures in
     let asked = sym c.in-Step.ensures.step ∙ ap (λ i. Some i) c.in-GiveBack.is in
     let hears = heard_none c.max-at.result old call (ap (λ s. is_some s) asked) in
-    let went = c.stepped.ensures reports.GoOn c.args.caller old old call call _ hears asked (did.moves took) (did.overtakes took) (did.room took) did.longer in
+    let went = c.stepped.ensures reports.GoOn c.args.caller old old call call _ hears asked (c.return_whole.ensures.stepped took) in
     let P : ℕ → Type 0 = λ n. WentOn reports.GoOn c.args.caller n old c.stepped.new.self call c.stepped.new.call c.stepped.result in
     let Q : DrivenModel → Type 0 = λ d. WentOn reports.GoOn c.args.caller (max c.args.at d.last) old c.stepped.new.self call c.stepped.new.call c.stepped.result in
     subst Q c.self.view_is (subst P c.max-at.ensures went)

@@ -12,8 +12,8 @@ use Rattle.pool_driver.proofs.Overtaking.{counts_on, passes_other}
 use Rattle.pool_driver.proofs.Running.{takes_uncut}
 use Rattle.pool_driver.proofs.pool.DrivenPool.return_whole.Goals as goal
 
-pub returns-clause-moves : goal.returns-clause-moves
-returns-clause-moves c is =
+pub returns-clause-stepped : goal.returns-clause-stepped
+returns-clause-stepped c is =
     let input : Input = inputs.GiveBack c.args.id in
     let park : Input = inputs.Park c.args.id outcomes.Good in
     let inside = c.self.inside in
@@ -30,26 +30,13 @@ returns-clause-moves c is =
     let asked : step_at found.operation ≡ Some park = goes.asks in
     let first = takes_step input c.args.caller c.args.at answers.Check None here mid call found c.requires.asked checked refl goes.begins.comes refl refl refl refl in
     let second = moves_step c.args.caller c.args.at mid new found last park answers.Parked None asked back refl goes.ends.comes refl refl refl refl in
-    let P : DrivenModel → Type 0 = λ d. TakesFirst input true c.args.caller c.args.at d new call last in
-    subst P c.self.view_is (takes_on input c.args.caller c.args.at true here mid new call found last refl first second)
-
-pub returns-clause-overtakes : goal.returns-clause-overtakes
-returns-clause-overtakes c is =
-    let input : Input = inputs.GiveBack c.args.id in
-    let park : Input = inputs.Park c.args.id outcomes.Good in
-    let inside = c.self.inside in
-    let here : DrivenModel = record { core = inside.core; queue = inside.waiters; plan = inside.plan; drops = inside.drops; holds_back = inside.holds_back; last = inside.last } in
-    let call = c.args.call.now in
-    let parks = c.park_lent.ensures.parked in
-    let goes = c.in-Some.ensures in
-    let found : Call = record call { operation = goes.between } in
-    let last : Call = record call { operation = c.in-Some.parked } in
-    let mid : DrivenModel = record here { core = parks.mid } in
-    let new : DrivenModel = record here { core = c.park_lent.new.self } in
-    let checked = takes_uncut c.args.caller c.args.at input None here.drops here.core parks.mid answers.Check None parks.checked in
-    let back = takes_uncut c.args.caller c.args.at park (Some found.token) here.drops parks.mid new.core answers.Parked None parks.parked in
-    let asked : step_at found.operation ≡ Some park = goes.asks in
-    let first = passes_other c.args.caller c.args.at input answers.Check None here mid call found refl c.requires.asked checked refl refl refl refl in
-    let second = passes_other c.args.caller c.args.at park answers.Parked None mid new found last refl asked back refl refl refl refl in
-    let P : DrivenModel → Type 0 = λ d. CountsOvertakes c.args.caller c.args.at d new call last in
-    subst P c.self.view_is (counts_on c.args.caller c.args.at here mid new call found last first second)
+    let T : DrivenModel → Type 0 = λ d. TakesFirst input true c.args.caller c.args.at d new call last in
+    let first_pass = passes_other c.args.caller c.args.at input answers.Check None here mid call found refl c.requires.asked checked refl refl refl refl in
+    let second_pass = passes_other c.args.caller c.args.at park answers.Parked None mid new found last refl asked back refl refl refl refl in
+    let O : DrivenModel → Type 0 = λ d. CountsOvertakes c.args.caller c.args.at d new call last in
+    record {
+      takes = subst T c.self.view_is (takes_on input c.args.caller c.args.at true here mid new call found last refl first second);
+      overtakes = subst O c.self.view_is (counts_on c.args.caller c.args.at here mid new call found last first_pass second_pass);
+      room = c.in-Some.ensures.ends.room;
+      longer = refl;
+    }

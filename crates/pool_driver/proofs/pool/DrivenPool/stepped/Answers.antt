@@ -6,14 +6,14 @@ use Rattle.pool_driver.specs.Driving.{GoesFrom}
 use Rattle.pool_driver.proofs.pool.DrivenPool.stepped.Goals as goal
 
 pub returns : goal.returns
-returns c report caller old heard before mid input hears asked first overtakes room longer =
+returns c report caller old heard before mid input hears asked stepped =
     let call = c.args.call.now in
     let next = c.action-action.ensures in
     let F : Option Input → Type 0 = λ s. GoesFrom s caller c.args.at heard c.args.self.now mid call in
     c.went.ensures report caller old heard before mid hears (record {
-      goes = subst F (sym asked) (record { moves = first.moves; starts = first.starts });
-      overtakes = overtakes;
-      room = λ lacks drops. absurd (both_ways (lacks_room call.operation) room lacks);
+      goes = subst F (sym asked) (record { moves = stepped.takes.moves; starts = stepped.takes.starts });
+      overtakes = stepped.overtakes;
+      room = λ lacks drops. absurd (both_ways (lacks_room call.operation) stepped.room lacks);
       next = record { right = next.right; step = next.step; room = next.room; over = next.over };
-      longer = longer;
+      longer = stepped.longer;
     })

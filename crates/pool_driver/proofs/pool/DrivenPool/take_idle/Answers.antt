@@ -12,8 +12,8 @@ use Rattle.pool_driver.proofs.Overtaking.{draws_none, passes_asked}
 use Rattle.pool_driver.proofs.Running.{takes_uncut}
 use Rattle.pool_driver.proofs.pool.DrivenPool.take_idle.Goals as goal
 
-pub returns-clause-moves : goal.returns-clause-moves
-returns-clause-moves c is =
+pub returns-clause-stepped : goal.returns-clause-stepped
+returns-clause-stepped c is =
     let input : Input = inputs.Borrow c.args.began in
     let inside = c.self.inside in
     let here : DrivenModel = record { core = inside.core; queue = inside.waiters; plan = inside.plan; drops = inside.drops; holds_back = inside.holds_back; last = inside.last } in
@@ -28,24 +28,14 @@ returns-clause-moves c is =
     let told = c.unwrap_or-call.ensures ∙ ap (unwrap_or c.in-Ok.out) note.accepts.token in
     let first = takes_step input c.args.caller c.args.at (answers.Take c.args.id) c.in-Ok.out here mid call found c.requires.asked taken told c.in-Some.ensures.comes refl refl refl refl in
     let rest : Accepts reports.GoOn mid new found last = record { core = note.accepts.core; rest = note.accepts.rest; token = refl; comes = λ turns come. come; queue = note.accepts.queue } in
-    let P : DrivenModel → Type 0 = λ d. TakesFirst input true c.args.caller c.args.at d new call last in
-    subst P c.self.view_is (takes_then input c.args.caller c.args.at true here mid new call found last first rest)
-
-pub returns-clause-overtakes : goal.returns-clause-overtakes
-returns-clause-overtakes c is =
-    let input : Input = inputs.Borrow c.args.began in
-    let inside = c.self.inside in
-    let here : DrivenModel = record { core = inside.core; queue = inside.waiters; plan = inside.plan; drops = inside.drops; holds_back = inside.holds_back; last = inside.last } in
-    let mid : DrivenModel = record here { core = c.step_due.new.self } in
-    let call = c.args.call.now in
-    let note = c.note_found.ensures in
-    let new = c.note_found.new.self in
-    let token = c.unwrap_or-call.result in
-    let found : Call = record call { operation = c.in-Some.taken; token = token } in
-    let last : Call = record c.note_found.new.call { operation = c.in-Some.taken; token = token } in
-    let taken = takes_uncut c.args.caller c.args.at input None here.drops here.core mid.core (answers.Take c.args.id) c.in-Ok.out c.in-Ok.ensures.answered in
+    let T : DrivenModel → Type 0 = λ d. TakesFirst input true c.args.caller c.args.at d new call last in
     let n = c.args.available in
     let there = subst (λ (d : DrivenModel). IsAvailable d n) (sym c.self.view_is) c.requires.available in
     let may = λ (newcomer : is_newcomer call ≡ true). subst (λ (d : DrivenModel). may_come_in n d ≡ true) (sym c.self.view_is) (c.requires.may newcomer) in
-    let P : DrivenModel → Type 0 = λ d. CountsOvertakes c.args.caller c.args.at d new call last in
-    subst P c.self.view_is (passes_asked c.args.caller c.args.at c.args.began n (answers.Take c.args.id) c.in-Ok.out here mid new call found last c.requires.asked there may taken refl refl refl refl note.accepts.core note.accepts.rest.drops note.served (λ has none. draws_none None last.ticket (is_waiting last.operation ≡ true) note.ticket has refl) note.others)
+    let O : DrivenModel → Type 0 = λ d. CountsOvertakes c.args.caller c.args.at d new call last in
+    record {
+      takes = subst T c.self.view_is (takes_then input c.args.caller c.args.at true here mid new call found last first rest);
+      overtakes = subst O c.self.view_is (passes_asked c.args.caller c.args.at c.args.began n (answers.Take c.args.id) c.in-Ok.out here mid new call found last c.requires.asked there may taken refl refl refl refl note.accepts.core note.accepts.rest.drops note.served (λ has none. draws_none None last.ticket (is_waiting last.operation ≡ true) note.ticket has refl) note.others);
+      room = c.in-Some.ensures.room;
+      longer = c.note_found.ensures.longer;
+    }

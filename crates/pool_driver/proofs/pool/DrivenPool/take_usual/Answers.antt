@@ -6,8 +6,8 @@ use Rattle.pool_driver.proofs.Overtaking.{passes_other}
 use Rattle.pool_driver.proofs.Running.{takes_uncut}
 use Rattle.pool_driver.proofs.pool.DrivenPool.take_usual.Goals as goal
 
-pub returns-clause-moves : goal.returns-clause-moves
-returns-clause-moves c is =
+pub returns-clause-stepped : goal.returns-clause-stepped
+returns-clause-stepped c is =
     let here = c.args.self.now in
     let new = c.step_usual.new.self in
     let call = c.args.call.now in
@@ -15,15 +15,9 @@ returns-clause-moves c is =
     let rest = c.step_usual.ensures.rest in
     let did : c.step_usual.result ≡ true = c.if-not-step_usual.false in
     let taken = takes_uncut c.args.caller c.args.at c.args.input (handed c.args.input call.token) here.drops here.core new.core c.args.answer None (c.step_usual.ensures.answered did) in
-    takes_step c.args.input c.args.caller c.args.at c.args.answer None here new call last c.requires.asked taken refl c.in-Some.ensures.comes (ap (λ d. d.plan) rest) (ap (λ d. d.drops) rest) (ap (λ d. d.queue) rest) refl
-
-pub returns-clause-overtakes : goal.returns-clause-overtakes
-returns-clause-overtakes c is =
-    let here = c.args.self.now in
-    let new = c.step_usual.new.self in
-    let call = c.args.call.now in
-    let last : Call = record call { operation = c.in-Some.after } in
-    let rest = c.step_usual.ensures.rest in
-    let did : c.step_usual.result ≡ true = c.if-not-step_usual.false in
-    let taken = takes_uncut c.args.caller c.args.at c.args.input (handed c.args.input call.token) here.drops here.core new.core c.args.answer None (c.step_usual.ensures.answered did) in
-    passes_other c.args.caller c.args.at c.args.input c.args.answer None here new call last c.requires.other c.requires.asked taken (ap (λ d. d.drops) rest) refl refl (ap (λ d. d.queue.waiting) rest)
+    record {
+      takes = takes_step c.args.input c.args.caller c.args.at c.args.answer None here new call last c.requires.asked taken refl c.in-Some.ensures.comes (ap (λ d. d.plan) rest) (ap (λ d. d.drops) rest) (ap (λ d. d.queue) rest) refl;
+      overtakes = passes_other c.args.caller c.args.at c.args.input c.args.answer None here new call last c.requires.other c.requires.asked taken (ap (λ d. d.drops) rest) refl refl (ap (λ d. d.queue.waiting) rest);
+      room = c.in-Some.ensures.room;
+      longer = refl;
+    }
