@@ -7,8 +7,7 @@ use crate::keeping::Eviction;
 use crate::lending::Returned;
 use crate::locked_pool::LockedPool;
 use crate::manager::Manager;
-use crate::shared::{Held, Item, Shared};
-use crate::sleepers::Wakes;
+use crate::shared::{Item, Shared};
 use crate::step::{Answer, Input, Outcome, Request, StepFault};
 use crate::values::Loan;
 use std::fmt::Debug;
@@ -49,38 +48,17 @@ pub(crate) fn complete<T>(
     let time = state.tell(at);
     match state.core.step(caller, time, request, token) {
         Ok((answer, _)) => answer,
-        Err(fault) => unexpected(request, fault),
+        Err(fault) => unexpected(request.input, fault),
     }
 }
 
-/// Returns the call to wake after a step, and asks for a writer of a segment, if one is due.
-#[inline]
-fn after_step<T>(state: &mut LockedPool<T>) -> Wakes {
-    state.care_for_journal();
-    Wakes::of(state.core.next_wake())
-}
-
-/// Ends the program if what the core answers does not fit a request.
+/// Ends the program if what the core answers does not fit an input.
 #[cold]
-pub(crate) fn unexpected(request: Request, answer: impl Debug) -> ! {
-    unreachable!("{request:?} was answered {answer:?}")
+pub(crate) fn unexpected(input: Input, answer: impl Debug) -> ! {
+    unreachable!("{input:?} was answered {answer:?}")
 }
 
 impl<M: Manager> Shared<M> {
-    /// Frees the lock after a step, and wakes the calls that may find something.
-    #[inline(always)]
-    pub fn leave_after_step(&self, mut state: Held<'_, M>) {
-        let wakes = after_step(&mut state);
-        self.leave(state, wakes);
-    }
-
-    /// Does the same before work on an object, for which others may wait: a later call writes the segment.
-    #[inline(always)]
-    pub fn leave_to_work(&self, mut state: Held<'_, M>) {
-        let wakes = after_step(&mut state);
-        self.leave_with_loan(state, wakes);
-    }
-
     /// Destroys an object, and frees its place.
     pub fn end_object(&self, caller: u32, ended: Loan<Item<M>>) {
         let _place = Place {
@@ -107,7 +85,7 @@ impl<M: Manager> Shared<M> {
         let too_old = Request::of(Input::Park, loan.id).with(Outcome::TestFailed);
         match complete(&mut state, caller, at, too_old, loan.token) {
             Answer::Destroy => {}
-            answer => unexpected(too_old, answer),
+            answer => unexpected(too_old.input, answer),
         }
         state.measures.loans.count(loan.object.lent, at.nanos);
         self.leave_to_work(state);
@@ -171,7 +149,7 @@ impl<M: Manager> Shared<M> {
                 let tested = Loan { id, token, object };
                 Some(self.test_age(&mut state, caller, at, tested))
             }
-            answer => unexpected(examine, answer),
+            answer => unexpected(examine.input, answer),
         };
         match examined {
             Some(Some(_)) => self.leave_to_work(state),
@@ -199,7 +177,7 @@ impl<M: Manager> Shared<M> {
                 None
             }
             Answer::Destroy => Some(tested),
-            answer => unexpected(report, answer),
+            answer => unexpected(report.input, answer),
         }
     }
 }

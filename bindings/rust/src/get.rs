@@ -113,10 +113,10 @@ impl<M: Manager + 'static> Get<M> {
         if let Progress::New(limit) = *progress {
             // It has ended if the manager panics.
             *progress = Progress::Ended;
-            let (caller, at) = match lend_at_once(pool) {
-                Ok(lent) => return Poll::Ready(Ok(lent)),
-                Err(came) => came,
-            };
+            let (caller, at) = (pool.caller(), pool.now());
+            if let Ok(loan) = pool.lend_without_call(caller, at, M::AWAITS) {
+                return Poll::Ready(Ok(Pooled::new(pool.clone(), loan, caller)));
+            }
             (*progress, *first) = (Progress::New(limit), at);
             begun = Some(Course::new(Kind::Borrow, caller, at, limit));
         }
@@ -143,21 +143,6 @@ impl<M: Manager + 'static> Get<M> {
         };
         go_on(pool, call, progress, context, waker)
     }
-}
-
-/// Returns an object that is lent at once, or else the number of the caller and the time.
-fn lend_at_once<M: Manager>(pool: &Handle<M>) -> Result<Pooled<M>, (u32, Moment)> {
-    let (caller, at) = (pool.caller(), pool.now());
-    let state = match pool.lend_at_once(caller, at) {
-        Ok(loan) => return Ok(Pooled::new(pool.clone(), loan, caller)),
-        Err(state) => state,
-    };
-    if pool.lends_at_once(&state) || M::AWAITS {
-        drop(state);
-    } else if let Ok(loan) = pool.lend_ready(state, caller, at) {
-        return Ok(Pooled::new(pool.clone(), loan, caller));
-    }
-    Err((caller, at))
 }
 
 /// Goes on with a borrow until it is over, or the task has to wait.

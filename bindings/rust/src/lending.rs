@@ -34,53 +34,49 @@ pub enum Touched {
     Gone,
 }
 
-/// The lock of a pool, held, or an object that was lent without a call.
-pub(crate) type LentOr<'a, M> = Result<Loan<Item<M>>, Held<'a, M>>;
+/// An object that was lent without a call, or the lock of the pool, if it is still held.
+pub(crate) type LentOr<'a, M> = Result<Loan<Item<M>>, Option<Held<'a, M>>>;
 
 impl<M: Manager> Handle<M> {
     /// Lends an object: an idle one, or a new one if a place is free.
     #[inline]
     pub fn borrow(&self, limit: WaitLimit) -> Result<Pooled<M>, Error<M::Error>> {
         let (caller, at) = (self.caller(), self.now());
-        let loan = match self.lend_at_once(caller, at) {
-            Ok(loan) => loan,
-            Err(state) => self.borrow_by_call(state, caller, at, limit)?,
-        };
-        Ok(Pooled::new(self.clone(), loan, caller))
+        let lent = |loan| Pooled::new(self.clone(), loan, caller);
+        match self.lend_without_call(caller, at, false) {
+            Ok(loan) => Ok(lent(loan)),
+            Err(held) => self.borrow_by_call(held, caller, at, limit).map(lent),
+        }
     }
 }
 
 impl<M: Manager> Shared<M> {
-    /// Lends an idle object, if the manager is asked nothing, and no call that waits comes first. Returns the lock otherwise.
+    /// Lends an idle object, if no call that waits comes first, and nothing is awaited for it. Otherwise a call is to be begun, with the lock if it is
+    /// still held.
     #[inline]
-    pub fn lend_at_once(&self, caller: u32, at: Moment) -> LentOr<'_, M> {
+    pub fn lend_without_call(&self, caller: u32, at: Moment, is_awaited: bool) -> LentOr<'_, M> {
         let mut state = self.lock();
-        let may_lend = self.lends_at_once(&state);
-        match may_lend.then(|| state.lend(caller, at)).flatten() {
-            Some(loan) => {
-                let wakes = Wakes::of(state.core.next_wake());
-                self.leave_with_loan(state, wakes);
-                Ok(loan)
-            }
-            None => Err(state),
+        if self.lends_at_once(&state) {
+            let Some(loan) = state.lend(caller, at) else {
+                return Err(Some(state));
+            };
+            self.leave_to_work(state);
+            return Ok(loan);
+        }
+        match is_awaited {
+            true => Err(Some(state)),
+            false => self.lend_ready(state, caller, at),
         }
     }
 
     fn borrow_by_call(
         &self,
-        state: Held<'_, M>,
+        held: Option<Held<'_, M>>,
         caller: u32,
         at: Moment,
         limit: WaitLimit,
     ) -> Result<Loan<Item<M>>, Error<M::Error>> {
-        let mut state = match self.lends_at_once(&state) {
-            true => state,
-            false => match self.lend_ready(state, caller, at) {
-                Ok(loan) => return Ok(loan),
-                Err(held) => held.unwrap_or_else(|| self.lock()),
-            },
-        };
-        state = self.pass_wakes_on(state);
+        let mut state = self.pass_wakes_on(held.unwrap_or_else(|| self.lock()));
         let mut course = Course::new(Kind::Borrow, caller, at, limit);
         course.start(&mut state);
         if let Some(loan) = course.take_lent(&mut state) {
@@ -103,8 +99,7 @@ impl<M: Manager> Shared<M> {
         let (state, loan) = match self.parks_at_once(&state) {
             true => match state.take_back(caller, at, loan) {
                 None => {
-                    let wakes = Wakes::of(state.core.next_wake());
-                    self.leave(state, wakes);
+                    self.leave_after_step(state);
                     return Returned::Parked;
                 }
                 Some(loan) => (state, loan),

@@ -60,7 +60,6 @@ impl<T> LockedPool<T> {
         let time = self.tell(at);
         let (id, token) = self.core.lend(caller, time)?;
         self.measures.waits.count(at.nanos, at.nanos);
-        self.care_for_journal();
         let object = self.values.take(token).lent_at(at);
         Some(Loan { id, token, object })
     }
@@ -78,7 +77,6 @@ impl<T> LockedPool<T> {
             return Some(loan);
         }
         self.measures.loans.count(loan.object.lent, at.nanos);
-        self.care_for_journal();
         self.values.put(loan.token, loan.object);
         None
     }

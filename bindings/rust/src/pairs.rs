@@ -3,7 +3,7 @@
 
 use crate::ages::{complete, unexpected};
 use crate::clock::Moment;
-use crate::lending::Returned;
+use crate::lending::{LentOr, Returned};
 use crate::manager::Manager;
 use crate::shared::{Held, Item, Shared};
 use crate::sleepers::Wakes;
@@ -75,7 +75,7 @@ impl<M: Manager> Worked<'_, M> {
         let mut state = self.pool.lock();
         match complete(&mut state, self.caller, at, report, loan.token) {
             Answer::Destroy => {}
-            answer => unexpected(report, answer),
+            answer => unexpected(report.input, answer),
         }
         self.pool.leave_to_work(state);
         self.pool.end_object(self.caller, loan);
@@ -113,13 +113,13 @@ impl<M: Manager> Shared<M> {
         mut state: Held<'a, M>,
         caller: u32,
         at: Moment,
-    ) -> Result<Loan<Item<M>>, Option<Held<'a, M>>> {
+    ) -> LentOr<'a, M> {
         let Some(loan) = state.take(caller, at) else {
             return Err(Some(state));
         };
-        let mut taken = self.worked(caller, Input::Ready, loan);
         let is_tested = state.setup.settings.test_on_borrow;
         self.leave_to_work(state);
+        let mut taken = self.worked(caller, Input::Ready, loan);
         let activated = taken.activate();
         match activated.and_then(|()| taken.validate(is_tested)) {
             Ok(()) => Ok(self.lend(caller, at, taken.end())),
@@ -138,7 +138,7 @@ impl<M: Manager> Shared<M> {
         let mut state = self.lock();
         match complete(&mut state, caller, at, ready, loan.token) {
             Answer::Lent => {}
-            answer => unexpected(ready, answer),
+            answer => unexpected(ready.input, answer),
         }
         state.measures.waits.count(began.nanos, at.nanos);
         state.care_for_journal();
@@ -158,9 +158,9 @@ impl<M: Manager> Shared<M> {
         if !state.check(caller, at, &loan) {
             return Err((state, loan));
         }
-        let mut returned = self.worked(caller, Input::Park, loan);
         let is_tested = state.setup.settings.test_on_return;
         self.leave_with_loan(state, Wakes::default());
+        let mut returned = self.worked(caller, Input::Park, loan);
         let tested = returned.validate(is_tested);
         match tested.and_then(|()| returned.passivate()) {
             Ok(()) => Ok(self.park(caller, returned.end())),
@@ -188,7 +188,7 @@ impl<M: Manager> Shared<M> {
                 self.end_object(caller, loan);
                 Returned::Destroyed
             }
-            answer => unexpected(park, answer),
+            answer => unexpected(park.input, answer),
         }
     }
 

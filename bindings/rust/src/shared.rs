@@ -258,6 +258,33 @@ impl<M: Manager> Shared<M> {
         }
     }
 
+    /// Frees the lock after steps, and wakes the calls that may find something. Then it writes a segment if one is due.
+    #[inline(always)]
+    pub fn leave_after_step(&self, mut state: Held<'_, M>) {
+        state.care_for_journal();
+        let is_due = state.journal.wants_writer();
+        self.leave_told(state);
+        if is_due {
+            self.write_due();
+        }
+    }
+
+    /// Does the same with an object in hand, which others may wait for: it goes on at once, and a later call writes the segment.
+    #[inline(always)]
+    pub fn leave_to_work(&self, mut state: Held<'_, M>) {
+        state.care_for_journal();
+        self.leave_told(state);
+    }
+
+    /// Frees the lock, and wakes the calls that the core tells.
+    #[inline(always)]
+    fn leave_told(&self, mut state: Held<'_, M>) {
+        match state.core.next_wake() {
+            None => drop(state),
+            told => self.wake(state, Wakes::of(told)),
+        }
+    }
+
     /// Wakes calls, each without the lock. If the waker of a task panics, its call is given up, and another one is woken in its place.
     #[cold]
     fn wake<'a>(&'a self, mut state: Held<'a, M>, mut wakes: Wakes) {
