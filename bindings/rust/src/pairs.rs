@@ -1,5 +1,5 @@
 //! Borrows of idle objects and returns that ask something of the manager. The library takes the first step of each, and this module reports what
-//! came of the manager's work by the second one, in half of the instructions of the library's calls.
+//! came of the manager's work by the second one, in fewer instructions than the library's calls.
 
 use crate::ages::{complete, unexpected};
 use crate::clock::Moment;
