@@ -155,8 +155,13 @@ fn drop_in_both(change: impl FnOnce(Builder<Noting>) -> Builder<Noting>) {
     drop(pool.get().unwrap());
     let settings = pool.settings();
     drop(pool);
+    // A round of its own thread may be the last to have the pool.
+    let end = Instant::now() + LONGEST;
+    while !PARTS.iter().all(|part| folder.join(part).exists()) {
+        assert!(Instant::now() < end, "a part of the pool is not dropped");
+        thread::sleep(Duration::from_millis(1));
+    }
     assert!(folder.join("destroyed 0").exists());
-    assert!(PARTS.iter().all(|part| folder.join(part).exists()));
     let start = start_in(&folder.join("journal"));
     let segments = segments_in(&start);
     let entries = segments.iter().flat_map(|text| entries_of(text));
