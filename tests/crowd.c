@@ -45,9 +45,10 @@ static void check(bool holds, const char *what) {
 }
 
 /* Checks that a call has lent the object. Returns its id. */
-static uint64_t lent(const struct zuphinka_effects *effects) {
-  check(effects->action == ZUPHINKA_ACTION_DONE && effects->end == ZUPHINKA_END_LENT, "a borrow has no object");
-  check(effects->object == &object && !effects->has_ticket, "a borrow has another object, or waits");
+static uint64_t lent(uint32_t status, const struct zuphinka_effects *effects) {
+  bool is_done = status == ZUPHINKA_STATUS_DONE && effects->action == ZUPHINKA_ACTION_DONE && effects->end == ZUPHINKA_END_LENT && !effects->has_ticket;
+  check(is_done || status == ZUPHINKA_STATUS_AT_ONCE, "a borrow has no object, or waits");
+  check(effects->object == &object, "a borrow has another object");
   return effects->number;
 }
 
@@ -58,8 +59,7 @@ static uint64_t make(void) {
   struct zuphinka_call call;
   struct zuphinka_effects effects;
   check(zuphinka_begin(&pool, &start, &call, &effects) == ZUPHINKA_STATUS_DONE && effects.action == ZUPHINKA_ACTION_MAKE, "no object is made");
-  check(zuphinka_advance(&pool, &call, &made, &effects) == ZUPHINKA_STATUS_DONE, "the new object is not taken");
-  return lent(&effects);
+  return lent(zuphinka_advance(&pool, &call, &made, &effects), &effects);
 }
 
 /* Returns the object. Returns whether a call is to be woken, and stores its ticket. */
@@ -68,7 +68,9 @@ static bool give_back(uint64_t id, uint64_t *ticket) {
   struct zuphinka_call call;
   struct zuphinka_effects effects;
   uint64_t other = 0;
-  check(zuphinka_begin(&pool, &start, &call, &effects) == ZUPHINKA_STATUS_DONE, "a return failed");
+  uint32_t status = zuphinka_begin(&pool, &start, &call, &effects);
+  if (status == ZUPHINKA_STATUS_AT_ONCE) return false;
+  check(status == ZUPHINKA_STATUS_DONE, "a return failed");
   check(effects.action == ZUPHINKA_ACTION_DONE && effects.end == ZUPHINKA_END_PARKED, "a returned object is not idle");
   check(!effects.has_wake || zuphinka_next_wake(&pool, &other) == ZUPHINKA_STATUS_NO_WAKE, "two calls are woken for one object");
   *ticket = effects.wake;
@@ -93,8 +95,7 @@ static void serve(uint64_t id, uint64_t waits) {
     const struct zuphinka_event woken = {.report = ZUPHINKA_REPORT_WOKEN};
     struct zuphinka_effects effects;
     check(give_back(id, &ticket) && ticket == crowd[place].ticket, "another call is woken than the oldest");
-    check(zuphinka_advance(&pool, &crowd[place].call, &woken, &effects) == ZUPHINKA_STATUS_DONE, "a woken borrow failed");
-    check(lent(&effects) == id, "a woken borrow has another object");
+    check(lent(zuphinka_advance(&pool, &crowd[place].call, &woken, &effects), &effects) == id, "a woken borrow has another object");
   }
   check(!give_back(id, &ticket), "a call is woken that does not wait");
 }
@@ -106,7 +107,7 @@ static void pair(uint64_t id) {
   for (int number = 0; number < PAIRS; number++) {
     struct zuphinka_call call;
     struct zuphinka_effects effects;
-    check(zuphinka_begin(&pool, &start, &call, &effects) == ZUPHINKA_STATUS_DONE && lent(&effects) == id, "the idle object is not lent");
+    check(lent(zuphinka_begin(&pool, &start, &call, &effects), &effects) == id, "the idle object is not lent");
     check(!give_back(id, &ticket), "a call is woken that does not wait");
   }
 }

@@ -105,7 +105,8 @@ enum zuphinka_status {
   ZUPHINKA_STATUS_NO_CALL = 13,         /* the struct has no call in progress of the pool */
   ZUPHINKA_STATUS_MISFIT = 14,          /* the report does not fit the last action of the call */
   ZUPHINKA_STATUS_NO_WAKE = 15,         /* no call is to be woken */
-  ZUPHINKA_STATUS_NOT_AT_ONCE = 16      /* the call is not over at once: it is to be begun */
+  ZUPHINKA_STATUS_NOT_AT_ONCE = 16,     /* the call is not over at once: it is to be begun */
+  ZUPHINKA_STATUS_AT_ONCE = 17          /* the call is over: its object is lent, or idle, and no call is to be woken */
 };
 
 /* The input of a request. `number`, `outcome` and `object` are fields of the request. */
@@ -350,7 +351,6 @@ struct zuphinka_effects {
   bool has_ticket;    /* the call waits */
   bool has_until;     /* the wait is limited */
   bool has_wake;      /* a call is to be woken; then ask zuphinka_next_wake for more */
-  bool is_low;        /* the journal has room for less than a quarter of its limit: cut it soon */
 };
 
 /* What is true of a pool besides its counts. */
@@ -496,13 +496,16 @@ uint32_t zuphinka_open_with(struct zuphinka *pool, const char *settings, size_t 
  * A borrow of an idle object without activation or test is over at once, and so is the return of an object without test or passivation. Neither
  * allocates memory if the pool has as many objects as before.
  *
+ * Where a borrow has lent its object or a return has parked it, and no call is to be woken, the status may be ZUPHINKA_STATUS_AT_ONCE in place of
+ * ZUPHINKA_STATUS_DONE. Then only `number` and `object` are stored in `effects`, and the call is over.
+ *
  * The host holds its lock during a call of the library, and not while it acts or sleeps. After each call of `zuphinka_begin` and
  * `zuphinka_advance` it wakes the call whose ticket is `wake`, if there is one, and then those of `zuphinka_next_wake` until none is left. After a
  * step by `zuphinka_step` it does the latter. A call that is woken reports ZUPHINKA_REPORT_WOKEN; if it is still not its turn, its action is
  * ZUPHINKA_ACTION_SLEEP again. Times never decrease: a call at an earlier time than one before it is taken at that of the latter.
  *
- * Returns ZUPHINKA_STATUS_DONE. Errors leave the pool, `call` and `effects` unchanged: ZUPHINKA_STATUS_NOT_OPEN; ZUPHINKA_STATUS_BAD_REQUEST, if
- * `kind` has a wrong code.
+ * Returns ZUPHINKA_STATUS_DONE or ZUPHINKA_STATUS_AT_ONCE. Errors leave the pool, `call` and `effects` unchanged: ZUPHINKA_STATUS_NOT_OPEN;
+ * ZUPHINKA_STATUS_BAD_REQUEST, if `kind` has a wrong code.
  */
 uint32_t zuphinka_begin(struct zuphinka *pool, const struct zuphinka_start *start, struct zuphinka_call *call,
                         struct zuphinka_effects *effects);
@@ -511,7 +514,7 @@ uint32_t zuphinka_begin(struct zuphinka *pool, const struct zuphinka_start *star
  * Goes on with a call in progress after a report of what became of its last action, as `zuphinka_begin` does. Once its action is
  * ZUPHINKA_ACTION_DONE it is in progress no more.
  *
- * Returns ZUPHINKA_STATUS_DONE. Errors leave the pool, `call` and `effects` unchanged:
+ * Returns ZUPHINKA_STATUS_DONE or ZUPHINKA_STATUS_AT_ONCE. Errors leave the pool, `call` and `effects` unchanged:
  *   - ZUPHINKA_STATUS_NOT_OPEN; ZUPHINKA_STATUS_NO_CALL, exactly if `call` has no call in progress of a pool with this number: it is over, of a pool
  *     with another number, or none that the library has written;
  *   - ZUPHINKA_STATUS_BAD_REQUEST, if `report` has a wrong code; ZUPHINKA_STATUS_MISFIT, if the report does not fit the last action.
@@ -617,6 +620,7 @@ static inline const char *zuphinka_status_text(uint32_t status) {
     case ZUPHINKA_STATUS_MISFIT: return "the report does not fit the last action of the call";
     case ZUPHINKA_STATUS_NO_WAKE: return "no call is to be woken";
     case ZUPHINKA_STATUS_NOT_AT_ONCE: return "the call is not over at once: it is to be begun";
+    case ZUPHINKA_STATUS_AT_ONCE: return "the call is over: its object is lent, or idle, and no call is to be woken";
     default: return "the code is no status";
   }
 }

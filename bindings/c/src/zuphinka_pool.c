@@ -126,16 +126,14 @@ static enum zuphinka_pool_error drive_on(struct zuphinka_pool *pool, struct run 
     struct zuphinka_event event = {run->at.milliseconds, run->token, run->start.caller, report};
     status = zuphinka_advance(&pool->core, call, &event, &run->next);
   }
-  return error_of_end(pool, run);
+  return status == ZUPHINKA_STATUS_AT_ONCE ? ZUPHINKA_POOL_ERROR_NONE : error_of_end(pool, run);
 }
 
-/* Makes a call from its beginning to its end, with the lock held before and after, and not while a callback runs. Returns its error. A loan or its end
- * that needs no callback and wakes nobody is over as it begins. */
+/* Makes a call from its beginning to its end, with the lock held before and after, and not while a callback runs. Returns its error. */
 static inline enum zuphinka_pool_error drive(struct zuphinka_pool *pool, struct run *run) {
   struct zuphinka_call call;
   uint32_t status = zuphinka_begin(&pool->core, &run->start, &call, &run->next);
-  bool is_over = run->next.end == ZUPHINKA_END_LENT || run->next.end == ZUPHINKA_END_PARKED;
-  return is_over && !run->next.has_wake ? ZUPHINKA_POOL_ERROR_NONE : drive_on(pool, run, &call, status);
+  return status == ZUPHINKA_STATUS_AT_ONCE ? ZUPHINKA_POOL_ERROR_NONE : drive_on(pool, run, &call, status);
 }
 
 /* ---- the calls */

@@ -160,6 +160,14 @@ static jlong reply(struct pool *pool, const struct zuphinka_effects *effects) {
   return (jlong)((uint64_t)(uintptr_t)effects->object << 24 | flags << 16 | (uint64_t)effects->end << 8 | effects->action);
 }
 
+/* Returns the reply of a borrow or a return that is over at once, of which the library stores the object alone. */
+static jlong reply_at_once(struct pool *pool, const struct zuphinka_effects *effects, jint kind) {
+  uint32_t end = kind == ZUPHINKA_KIND_BORROW ? ZUPHINKA_END_LENT : ZUPHINKA_END_PARKED;
+  const struct zuphinka_effects whole = {
+      .number = effects->number, .object = effects->object, .action = ZUPHINKA_ACTION_DONE, .end = end};
+  return reply(pool, &whole);
+}
+
 /* The longs in which Java keeps a call in progress. */
 enum { WORDS = sizeof(struct zuphinka_call) / sizeof(jlong) };
 
@@ -176,6 +184,7 @@ JNIEXPORT jlong JNICALL Java_io_github_zuphinka_Core_begin(JNIEnv *env, jclass c
   struct zuphinka_call call;
   struct zuphinka_effects effects;
   uint32_t status = zuphinka_begin(&pool->core, &start, &call, &effects);
+  if (status == ZUPHINKA_STATUS_AT_ONCE) return reply_at_once(pool, &effects, kind);
   if (status != ZUPHINKA_STATUS_DONE) return -(jlong)status;
   if (effects.action != ZUPHINKA_ACTION_DONE) (*env)->SetLongArrayRegion(env, progress, 0, WORDS, (const jlong *)call.words);
   return reply(pool, &effects);
@@ -183,7 +192,7 @@ JNIEXPORT jlong JNICALL Java_io_github_zuphinka_Core_begin(JNIEnv *env, jclass c
 
 /* Goes on with a call in progress, which is kept in `progress`, after a report. */
 JNIEXPORT jlong JNICALL Java_io_github_zuphinka_Core_advance(JNIEnv *env, jclass class, jlong handle, jlongArray progress, jlong at, jlong token,
-                                                             jint caller, jint report) {
+                                                             jint caller, jint kind, jint report) {
   (void)class;
   struct pool *pool = pool_at(handle);
   struct zuphinka_call call;
@@ -192,6 +201,7 @@ JNIEXPORT jlong JNICALL Java_io_github_zuphinka_Core_advance(JNIEnv *env, jclass
       .at = (uint64_t)at, .object = (void *)(uintptr_t)token, .caller = (uint32_t)caller, .report = (uint32_t)report};
   struct zuphinka_effects effects;
   uint32_t status = zuphinka_advance(&pool->core, &call, &event, &effects);
+  if (status == ZUPHINKA_STATUS_AT_ONCE) return reply_at_once(pool, &effects, kind);
   if (status != ZUPHINKA_STATUS_DONE) return -(jlong)status;
   (*env)->SetLongArrayRegion(env, progress, 0, WORDS, (const jlong *)call.words);
   return reply(pool, &effects);

@@ -272,8 +272,9 @@ impl<M: Manager> Builder<M> {
     /// Sets the age at which objects are destroyed; `None`: none is destroyed for its age, which is the default. An object is destroyed at its
     /// return, or by [`maintain`](Pool::maintain) and [`evict`](Pool::evict) while it is idle; no object is taken from its holder.
     ///
-    /// Eviction runs then test each object that they examine (`testWhileIdle` is set in [`Pool::settings`]), but validate it only if you set
-    /// [`test_while_idle`](Builder::test_while_idle). The age is a failed test in the journal.
+    /// Eviction runs then test each object that they examine (`testWhileIdle` is set in [`Pool::settings`], and `numTestsPerEvictionRun` to 1 if it
+    /// is 0), but validate it only if you set [`test_while_idle`](Builder::test_while_idle), and not for 0. In the journal the age is a failed test, and the return of an object that is too old is an
+    /// invalidation.
     pub fn max_lifetime(mut self, time: impl Into<Option<Duration>>) -> Builder<M> {
         self.max_lifetime = time.into();
         self

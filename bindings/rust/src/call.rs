@@ -30,6 +30,15 @@ impl Kind {
         matches!(self, Kind::Return | Kind::Invalidate)
     }
 
+    /// Returns the code of the end of such a call that is over at once.
+    #[inline(always)]
+    pub fn end_at_once(self) -> u32 {
+        match self {
+            Kind::Borrow => sys::END_LENT,
+            _ => sys::END_PARKED,
+        }
+    }
+
     /// Returns whether a closed pool refuses such a call.
     pub fn needs_open_pool(self) -> bool {
         matches!(self, Kind::Borrow | Kind::Add | Kind::Evict)
@@ -50,86 +59,68 @@ pub(crate) enum Report {
     GivenUp = sys::REPORT_GIVEN_UP,
 }
 
-/// What a call does next.
-#[derive(Clone, Copy, Debug, PartialEq, Eq)]
-pub(crate) enum Action {
-    /// It takes further steps, after others had the lock.
-    GoOn,
-    MakeRoom,
-    Make,
-    Activate,
-    Validate,
-    Passivate,
-    Destroy,
-    Sleep,
-    /// Nothing: it is over.
-    Done(End),
+/// An enum whose variants have the codes of the library.
+macro_rules! coded {
+    ($(#[$about:meta])* $name:ident { $($(#[$note:meta])* $variant:ident = $code:path,)* }) => {
+        $(#[$about])*
+        #[derive(Clone, Copy, Debug, PartialEq, Eq)]
+        #[repr(u32)]
+        pub(crate) enum $name {
+            $($(#[$note])* $variant = $code,)*
+        }
+
+        impl $name {
+            /// Returns the one of a code.
+            #[inline(always)]
+            pub fn of(code: u32) -> $name {
+                match code {
+                    $($code => $name::$variant,)*
+                    code => unreachable!("a call has {} {code}", stringify!($name)),
+                }
+            }
+        }
+    };
 }
 
-/// How a call ended.
-#[derive(Clone, Copy, Debug, PartialEq, Eq)]
-pub(crate) enum End {
-    Lent,
-    Closed,
-    Exhausted,
-    TimedOut,
-    MakeFailed,
-    CreateTestFailed,
-    ActivateFailed,
-    BorrowTestFailed,
-    PassivateFailed,
-    Parked,
-    Destroyed,
-    Gone,
-    NotLent,
-    Noted,
-    NoPlace,
-    Complete,
-    JournalFull,
-    OutOfMemory,
-    Cancelled,
-    Contradicted,
-}
-
-/// Returns the action of a code, and of the code of an end if it is the last one.
-#[inline]
-pub(crate) fn action_of(code: u32, end: u32) -> Action {
-    match code {
-        sys::ACTION_GO_ON => Action::GoOn,
-        sys::ACTION_MAKE_ROOM => Action::MakeRoom,
-        sys::ACTION_MAKE => Action::Make,
-        sys::ACTION_ACTIVATE => Action::Activate,
-        sys::ACTION_VALIDATE => Action::Validate,
-        sys::ACTION_PASSIVATE => Action::Passivate,
-        sys::ACTION_DESTROY => Action::Destroy,
-        sys::ACTION_SLEEP => Action::Sleep,
-        sys::ACTION_DONE => Action::Done(end_of(end)),
-        code => unreachable!("a call has action {code}"),
+coded! {
+    /// What a call does next.
+    Action {
+        /// It takes further steps, after others had the lock.
+        GoOn = sys::ACTION_GO_ON,
+        MakeRoom = sys::ACTION_MAKE_ROOM,
+        Make = sys::ACTION_MAKE,
+        Activate = sys::ACTION_ACTIVATE,
+        Validate = sys::ACTION_VALIDATE,
+        Passivate = sys::ACTION_PASSIVATE,
+        Destroy = sys::ACTION_DESTROY,
+        Sleep = sys::ACTION_SLEEP,
+        /// Nothing: it is over.
+        Done = sys::ACTION_DONE,
     }
 }
 
-fn end_of(code: u32) -> End {
-    match code {
-        sys::END_LENT => End::Lent,
-        sys::END_CLOSED => End::Closed,
-        sys::END_EXHAUSTED => End::Exhausted,
-        sys::END_TIMED_OUT => End::TimedOut,
-        sys::END_MAKE_FAILED => End::MakeFailed,
-        sys::END_CREATE_TEST_FAILED => End::CreateTestFailed,
-        sys::END_ACTIVATE_FAILED => End::ActivateFailed,
-        sys::END_BORROW_TEST_FAILED => End::BorrowTestFailed,
-        sys::END_PASSIVATE_FAILED => End::PassivateFailed,
-        sys::END_PARKED => End::Parked,
-        sys::END_DESTROYED => End::Destroyed,
-        sys::END_GONE => End::Gone,
-        sys::END_NOT_LENT => End::NotLent,
-        sys::END_NOTED => End::Noted,
-        sys::END_NO_PLACE => End::NoPlace,
-        sys::END_COMPLETE => End::Complete,
-        sys::END_JOURNAL_FULL => End::JournalFull,
-        sys::END_OUT_OF_MEMORY => End::OutOfMemory,
-        sys::END_CANCELLED => End::Cancelled,
-        sys::END_CONTRADICTED => End::Contradicted,
-        code => unreachable!("a call has end {code}"),
+coded! {
+    /// How a call ended.
+    End {
+        Lent = sys::END_LENT,
+        Closed = sys::END_CLOSED,
+        Exhausted = sys::END_EXHAUSTED,
+        TimedOut = sys::END_TIMED_OUT,
+        MakeFailed = sys::END_MAKE_FAILED,
+        CreateTestFailed = sys::END_CREATE_TEST_FAILED,
+        ActivateFailed = sys::END_ACTIVATE_FAILED,
+        BorrowTestFailed = sys::END_BORROW_TEST_FAILED,
+        PassivateFailed = sys::END_PASSIVATE_FAILED,
+        Parked = sys::END_PARKED,
+        Destroyed = sys::END_DESTROYED,
+        Gone = sys::END_GONE,
+        NotLent = sys::END_NOT_LENT,
+        Noted = sys::END_NOTED,
+        NoPlace = sys::END_NO_PLACE,
+        Complete = sys::END_COMPLETE,
+        JournalFull = sys::END_JOURNAL_FULL,
+        OutOfMemory = sys::END_OUT_OF_MEMORY,
+        Cancelled = sys::END_CANCELLED,
+        Contradicted = sys::END_CONTRADICTED,
     }
 }

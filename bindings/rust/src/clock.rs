@@ -2,10 +2,11 @@
 
 use crate::panics::unless_it_panics;
 use std::ffi::c_int;
+use std::mem::MaybeUninit;
 
 extern "C" {
     /// Stores seconds and nanoseconds.
-    fn clock_gettime(clock: c_int, time: *mut [i64; 2]) -> c_int;
+    fn clock_gettime(clock: c_int, time: *mut [u64; 2]) -> c_int;
 }
 
 const CLOCK_MONOTONIC: c_int = 1;
@@ -15,11 +16,13 @@ const NANOS_PER_MILLI: u64 = 1_000_000;
 /// Returns the time by the clock of [`Instant`](std::time::Instant), in nanoseconds, in a quarter of its instructions.
 #[inline]
 fn monotonic() -> u64 {
-    let mut time = [0; 2];
-    // SAFETY: `timespec` has this layout where the crate compiles.
-    let status = unsafe { clock_gettime(CLOCK_MONOTONIC, &mut time) };
+    let mut time = MaybeUninit::uninit();
+    // SAFETY: `timespec` has this layout where the crate compiles, with numbers that are not negative.
+    let status = unsafe { clock_gettime(CLOCK_MONOTONIC, time.as_mut_ptr()) };
     assert!(status == 0, "the system has this clock");
-    time[0] as u64 * 1_000_000_000 + time[1] as u64
+    // SAFETY: the time is stored.
+    let [seconds, nanos] = unsafe { time.assume_init() };
+    seconds * 1_000_000_000 + nanos
 }
 
 /// A clock of the user's.
@@ -37,8 +40,8 @@ pub(crate) struct Moment {
 impl Moment {
     /// Returns this moment, or the beginning of the next millisecond by the system's clock: a wait from then on is as long as it is to be.
     pub fn rounded_up(self) -> Moment {
-        let is_within = self.nanos % NANOS_PER_MILLI > 0;
-        let millis = self.millis.saturating_add(is_within.into());
+        let is_within = self.millis.wrapping_mul(NANOS_PER_MILLI) < self.nanos;
+        let millis = self.millis + u64::from(is_within);
         Moment { millis, ..self }
     }
 

@@ -40,7 +40,7 @@ impl<M: Manager> Shared<M> {
     /// Tells threads that wait for the end of all objects that one may have ended.
     pub fn tell_ended(&self, state: &LockedPool<M::Object>) {
         if state.is_end_awaited {
-            self.ended.notify_all();
+            self.ended.ring();
         }
     }
 }

@@ -1,7 +1,7 @@
 //! Why a call of a pool failed, why a pool was not opened, and why settings were not read.
 
 use crate::escaped::Escaped;
-use crate::step::StepFault;
+use crate::proved_core::CoreFault;
 use crate::timeouts::Timeout;
 use std::time::Duration;
 use std::{error, fmt, io};
@@ -54,15 +54,6 @@ impl<E> Error<E> {
             timeout.limit = limit;
         }
         self
-    }
-}
-
-impl<E> From<StepFault> for Error<E> {
-    fn from(fault: StepFault) -> Error<E> {
-        match fault {
-            StepFault::JournalFull => Error::JournalFull,
-            StepFault::OutOfMemory => Error::OutOfMemory,
-        }
     }
 }
 
@@ -221,11 +212,11 @@ impl From<SettingsError> for ReconfigureError {
     }
 }
 
-impl From<StepFault> for ReconfigureError {
-    fn from(fault: StepFault) -> ReconfigureError {
+impl From<CoreFault> for ReconfigureError {
+    fn from(fault: CoreFault) -> ReconfigureError {
         match fault {
-            StepFault::JournalFull => ReconfigureError::NoRoom,
-            StepFault::OutOfMemory => ReconfigureError::OutOfMemory,
+            CoreFault::JournalFull => ReconfigureError::NoRoom,
+            CoreFault::OutOfMemory => ReconfigureError::OutOfMemory,
         }
     }
 }

@@ -1,15 +1,15 @@
 //! A borrow by a task.
 
 use crate::call::{Action, Kind};
-use crate::clock::Moment;
 use crate::course::Course;
 use crate::error::Error;
 use crate::handle::Handle;
-use crate::in_progress::InProgress;
+use crate::in_progress::{InProgress, Suspended};
 use crate::manager::Manager;
-use crate::panics::drop_quietly;
+use crate::panics::{caught, drop_quietly};
 use crate::pooled::Pooled;
-use crate::shared::{Shared, WaitLimit};
+use crate::proved_core::Space;
+use crate::shared::WaitLimit;
 use crate::work::Worked;
 use std::fmt;
 use std::future::{poll_fn, Future};
@@ -34,8 +34,8 @@ pub struct Get<M: Manager> {
     // Dropped before the pool.
     progress: Progress<M>,
     pool: Handle<M>,
-    /// When it was polled first.
-    began: Moment,
+    /// When it was polled first, in nanoseconds.
+    began: u64,
 }
 
 /// How far a borrow is between two polls.
@@ -43,26 +43,14 @@ enum Progress<M: Manager> {
     /// It is to wait up to this limit.
     New(WaitLimit),
     /// It sleeps, or waits for room in the journal, or was woken.
-    Waits(Course<M>),
+    Waits(Suspended<M>),
     /// The manager is awaited.
     Works(Work<M>),
     Ended,
 }
 
 /// The work of a manager that is awaited, and the call that asks for it.
-type Work<M> = Pin<Box<dyn Future<Output = (Course<M>, Worked<M>)> + Send>>;
-
-/// The waker of the task that polls, unless the pool has taken it. Its drop may panic, and here that ends.
-struct PollWaker(Option<Waker>);
-
-impl Drop for PollWaker {
-    fn drop(&mut self) {
-        drop_quietly(self.0.take());
-    }
-}
-
-/// A call in a poll.
-type Polled<'a, M> = InProgress<M, &'a Shared<M>>;
+type Work<M> = Pin<Box<dyn Future<Output = (Suspended<M>, Worked<M>)> + Send>>;
 
 /// What a poll comes to.
 type Lent<M> = Poll<Result<Pooled<M>, Error<<M as Manager>::Error>>>;
@@ -72,14 +60,16 @@ impl<M: Manager> Get<M> {
         Get {
             progress: Progress::New(limit),
             pool,
-            began: Moment::of_millis(0),
+            began: 0,
         }
     }
 
     /// Ends the borrow, whose time is over.
     fn time_out(&mut self) -> Error<M::Error> {
         let error = match mem::replace(&mut self.progress, Progress::Ended) {
-            Progress::Waits(course) => InProgress::resume(&*self.pool, course).time_out(),
+            Progress::Waits(suspended) => {
+                InProgress::resume(&self.pool, suspended, &mut Space::uninit()).time_out()
+            }
             other => {
                 drop(other);
                 self.pool.lock().measures.timeouts += 1;
@@ -104,98 +94,125 @@ impl<M: Manager + 'static> Get<M> {
 
 impl<M: Manager + 'static> Get<M> {
     fn advance(&mut self, context: &mut Context<'_>) -> Lent<M> {
-        let Get {
-            progress,
+        let pool = &self.pool;
+        let mut polling = Polling {
             pool,
-            began: first,
-        } = self;
-        let mut begun = None;
-        if let Progress::New(limit) = *progress {
+            progress: &mut self.progress,
+            context,
+            waker: None,
+        };
+        if let Progress::New(limit) = *polling.progress {
             // It has ended if the manager panics.
-            *progress = Progress::Ended;
-            let (caller, at) = (pool.caller(), pool.now());
-            if let Ok(loan) = pool.lend_without_call(caller, at, M::AWAITS) {
-                return Poll::Ready(Ok(Pooled::new(pool.clone(), loan, caller)));
-            }
-            (*progress, *first) = (Progress::New(limit), at);
-            begun = Some(Course::new(Kind::Borrow, caller, at, limit));
+            *polling.progress = Progress::Ended;
+            let course = Course {
+                is_of_task: true,
+                ..Course::new(Kind::Borrow, pool.caller(), pool.now(), limit)
+            };
+            self.began = course.began;
+            return pool.lend(course, Poll::Ready, |call| polling.go_on(call));
         }
         // Code of others, so without the lock. If it panics, nothing has changed.
-        let mut waker = PollWaker(Some(context.waker().clone()));
-        let waker = &mut waker.0;
-        let call = match (mem::replace(progress, Progress::Ended), begun) {
-            (_, Some(course)) => {
-                let state = pool.pass_wakes_on(pool.lock());
-                InProgress::begin(&**pool, state, course, waker)
-            }
-            (Progress::Waits(course), _) => {
-                let mut call = InProgress::resume(&**pool, course);
-                if let Action::Sleep = call.action() {
-                    call.look(waker);
+        polling.waker = Some(polling.context.waker().clone());
+        let suspended = match mem::replace(polling.progress, Progress::Ended) {
+            Progress::Waits(suspended) => suspended,
+            Progress::Works(work) => match polling.poll_work(work) {
+                Poll::Ready((suspended, worked)) => {
+                    return polling.go_on_after(suspended, worked);
                 }
-                call
-            }
-            (Progress::Works(work), _) => match poll_work(pool, work, progress, context, waker) {
-                Poll::Ready(call) => call?,
                 Poll::Pending => return Poll::Pending,
             },
-            _ => panic!("a borrow is polled after it has ended"),
+            Progress::New(_) | Progress::Ended => panic!("a borrow is polled after it has ended"),
         };
-        go_on(pool, call, progress, context, waker)
+        polling.go_on(&mut InProgress::resume(
+            pool,
+            suspended,
+            &mut Space::uninit(),
+        ))
     }
 }
 
-/// Goes on with a borrow until it is over, or the task has to wait.
-fn go_on<'a, M: Manager + 'static>(
+/// A poll of a borrow.
+struct Polling<'a, 'b, M: Manager> {
     pool: &'a Handle<M>,
-    mut call: Polled<'a, M>,
-    progress: &mut Progress<M>,
-    context: &mut Context<'_>,
-    waker: &mut Option<Waker>,
-) -> Lent<M> {
-    loop {
-        match call.action() {
-            Action::Done(end) => {
-                let (lent, caller) = (call.take_lent(end), call.caller());
-                return Poll::Ready(lent.map(|loan| Pooled::new(pool.clone(), loan, caller)));
+    progress: &'a mut Progress<M>,
+    context: &'a mut Context<'b>,
+    /// The waker of the task, once it is cloned, unless the pool has taken it.
+    waker: Option<Waker>,
+}
+
+impl<M: Manager + 'static> Polling<'_, '_, M> {
+    /// Goes on with a borrow until it is over, or the task has to wait.
+    fn go_on(&mut self, call: &mut InProgress<'_, M>) -> Lent<M> {
+        loop {
+            match call.action() {
+                Action::Done => return Poll::Ready(self.pool.lent_by(call)),
+                Action::Sleep | Action::MakeRoom => {
+                    self.clone_waker(call);
+                    call.look(&mut self.waker);
+                    if self.waker.is_none() {
+                        *self.progress = Progress::Waits(call.suspend());
+                        return Poll::Pending;
+                    }
+                }
+                _ if call.is_awaited() => {
+                    let work = Box::pin(work(self.pool.clone(), call.suspend()));
+                    match self.poll_work(work) {
+                        Poll::Ready((suspended, worked)) => {
+                            call.take_up_again(suspended);
+                            call.go_on(worked)?;
+                        }
+                        Poll::Pending => return Poll::Pending,
+                    }
+                }
+                _ => call.act()?,
             }
-            // The pool has its waker.
-            Action::Sleep | Action::MakeRoom if waker.is_none() => {
-                *progress = Progress::Waits(call.suspend());
-                return Poll::Pending;
-            }
-            _ if call.is_awaited() => {
-                // It owns the object once it is polled, which is at once.
-                let own = InProgress::resume(pool.clone(), call.suspend());
-                match poll_work(pool, Box::pin(own.work()), progress, context, waker) {
-                    Poll::Ready(went_on) => call = went_on?,
-                    Poll::Pending => return Poll::Pending,
+        }
+    }
+
+    /// Goes on with a borrow after work of the manager.
+    fn go_on_after(&mut self, suspended: Suspended<M>, worked: Worked<M>) -> Lent<M> {
+        let mut space = Space::uninit();
+        let mut call = InProgress::resume(self.pool, suspended, &mut space);
+        call.go_on(worked)?;
+        self.go_on(&mut call)
+    }
+
+    /// Has the waker of the task, which is code of others. If its clone panics, the call waits.
+    fn clone_waker(&mut self, call: &mut InProgress<'_, M>) {
+        if self.waker.is_none() {
+            match caught(|| self.context.waker().clone()) {
+                Ok(waker) => self.waker = Some(waker),
+                Err(panic) => {
+                    *self.progress = Progress::Waits(call.suspend());
+                    panic.resume();
                 }
             }
-            _ => call.act(waker)?,
         }
+    }
+
+    /// Awaits the work of a manager.
+    fn poll_work(&mut self, mut work: Work<M>) -> Poll<(Suspended<M>, Worked<M>)> {
+        let polled = work.as_mut().poll(self.context);
+        if polled.is_pending() {
+            *self.progress = Progress::Works(work);
+        }
+        polled
     }
 }
 
-/// Awaits the work of a manager, and goes on with the call once it is done.
-fn poll_work<'a, M: Manager + 'static>(
-    pool: &'a Handle<M>,
-    mut work: Work<M>,
-    progress: &mut Progress<M>,
-    context: &mut Context<'_>,
-    waker: &mut Option<Waker>,
-) -> Poll<Result<Polled<'a, M>, Error<M::Error>>> {
-    match work.as_mut().poll(context) {
-        Poll::Pending => {
-            *progress = Progress::Works(work);
-            Poll::Pending
-        }
-        Poll::Ready((course, worked)) => {
-            let mut call = InProgress::resume(&**pool, course);
-            let went_on = call.go_on(worked, waker);
-            Poll::Ready(went_on.map(|()| call))
-        }
+impl<M: Manager> Drop for Polling<'_, '_, M> {
+    /// The drop of a waker may panic, and here that ends.
+    fn drop(&mut self) {
+        self.waker.take().into_iter().for_each(drop_quietly);
     }
+}
+
+/// Awaits the work of the manager that a call asks for. Once it was polled, its drop gives the call up.
+async fn work<M: Manager>(pool: Handle<M>, suspended: Suspended<M>) -> (Suspended<M>, Worked<M>) {
+    let mut space = Space::uninit();
+    let mut call = InProgress::resume(&pool, suspended, &mut space);
+    let worked = call.work_async().await;
+    (call.suspend(), worked)
 }
 
 /// Nothing in it is pinned, except what is in a box.
@@ -214,9 +231,13 @@ impl<M: Manager + 'static> Future for Get<M> {
 
 impl<M: Manager> Drop for Get<M> {
     fn drop(&mut self) {
-        if let Progress::Waits(course) = mem::replace(&mut self.progress, Progress::Ended) {
-            drop(InProgress::resume(&*self.pool, course));
-            drop(self.pool.pass_wakes_on(self.pool.lock()));
+        if let Progress::Waits(suspended) = mem::replace(&mut self.progress, Progress::Ended) {
+            drop(InProgress::resume(
+                &self.pool,
+                suspended,
+                &mut Space::uninit(),
+            ));
+            self.pool.pass_wakes_on();
         }
     }
 }

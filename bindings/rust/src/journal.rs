@@ -1,10 +1,9 @@
 //! What becomes of a journal, and its text.
 
 use crate::manager::Manager;
-use crate::proved_core::Core;
+use crate::proved_core::{Core, CoreFault};
 use crate::segments::Segments;
 use crate::shared::Shared;
-use crate::step::StepFault;
 use std::io::{self, Write};
 use std::sync::{MutexGuard, PoisonError};
 use std::thread;
@@ -47,7 +46,7 @@ const AT_ONCE: u64 = 256;
 const ROUNDS: u32 = 4;
 
 /// Appends a line at a position. Returns whether there is one.
-type Line = fn(&mut Core, u64, &mut Vec<u8>) -> Result<bool, StepFault>;
+type Line = fn(&mut Core, u64, &mut Vec<u8>) -> Result<bool, CoreFault>;
 
 /// Appends the lines from a position up to another, if there are as many. Returns the position after the last one.
 pub(crate) fn copy_lines(
@@ -56,7 +55,7 @@ pub(crate) fn copy_lines(
     from: u64,
     to: u64,
     text: &mut Vec<u8>,
-) -> Result<u64, StepFault> {
+) -> Result<u64, CoreFault> {
     for position in from..to {
         if !line(core, position, text)? {
             return Ok(position);
@@ -87,7 +86,7 @@ impl<M: Manager> Shared<M> {
     }
 
     /// Copies the stored journal. Returns its text and the number of its entries.
-    fn copy_journal(&self) -> Result<(Vec<u8>, u64), StepFault> {
+    fn copy_journal(&self) -> Result<(Vec<u8>, u64), CoreFault> {
         for _ in 0..ROUNDS {
             if let Some(copied) = self.try_copy_journal()? {
                 return Ok(copied);
@@ -103,7 +102,7 @@ impl<M: Manager> Shared<M> {
     }
 
     /// Copies the stored journal, some hundred lines at a time. Returns none if it was cut meanwhile.
-    fn try_copy_journal(&self) -> Result<Option<(Vec<u8>, u64)>, StepFault> {
+    fn try_copy_journal(&self) -> Result<Option<(Vec<u8>, u64)>, CoreFault> {
         let mut text = Vec::new();
         let mut state = self.lock();
         let (first, len) = (state.first_stored(), state.core.steps());
@@ -114,7 +113,7 @@ impl<M: Manager> Shared<M> {
     }
 
     /// Copies the lines of the base at a position. Returns whether the journal was not cut meanwhile.
-    pub fn copy_base(&self, first: u64, text: &mut Vec<u8>) -> Result<bool, StepFault> {
+    pub fn copy_base(&self, first: u64, text: &mut Vec<u8>) -> Result<bool, CoreFault> {
         self.copy_in_parts(first, Core::base_line, u64::MAX, text)
     }
 
@@ -126,7 +125,7 @@ impl<M: Manager> Shared<M> {
         line: Line,
         count: u64,
         text: &mut Vec<u8>,
-    ) -> Result<bool, StepFault> {
+    ) -> Result<bool, CoreFault> {
         let mut copied = 0;
         while copied < count {
             let mut state = self.lock();
@@ -145,7 +144,7 @@ impl<M: Manager> Shared<M> {
 
     /// Copies the stored entries up to the last one, some hundred at a time, while no other thread may cut them. Returns how many were
     /// copied.
-    pub fn copy_stored(&self, mut copied: u64, text: &mut Vec<u8>) -> Result<u64, StepFault> {
+    pub fn copy_stored(&self, mut copied: u64, text: &mut Vec<u8>) -> Result<u64, CoreFault> {
         let end = self.lock().core.steps();
         while copied < end {
             let mut state = self.lock();
@@ -193,7 +192,7 @@ impl<M: Manager> Shared<M> {
     }
 
     /// Copies entries that were not drained, some hundred, up to a position. Returns the positions between which they are.
-    fn copy_undrained(&self, end: u64, text: &mut Vec<u8>) -> Result<(u64, u64), StepFault> {
+    fn copy_undrained(&self, end: u64, text: &mut Vec<u8>) -> Result<(u64, u64), CoreFault> {
         let mut state = self.lock();
         let first = state.first_stored();
         let from = state.journal.drained.max(first);

@@ -6,6 +6,7 @@ use crate::error::Error;
 use crate::in_progress::InProgress;
 use crate::manager::Manager;
 use crate::panics::{caught, Panic};
+use crate::proved_core::Space;
 use crate::shared::{Shared, WaitLimit};
 use std::thread;
 
@@ -44,17 +45,16 @@ pub struct Maintenance {
 }
 
 impl<M: Manager> Shared<M> {
-    /// Begins a call that is for no lent object.
-    fn begin(&self, kind: Kind) -> InProgress<M, &Shared<M>> {
-        let (caller, at) = (self.caller(), self.now());
-        let course = Course::new(kind, caller, at, WaitLimit::AsSet);
-        InProgress::begin(self, self.lock(), course, &mut None)
+    /// That of a call that is for no lent object, and begins now.
+    fn course(&self, kind: Kind) -> Course<M> {
+        Course::new(kind, self.caller(), self.now(), WaitLimit::AsSet)
     }
 
     /// Makes an object and parks it, if a place is free.
     pub fn add(&self) -> Result<Addition, Error<M::Error>> {
-        let mut call = self.begin(Kind::Add);
-        match call.drive()? {
+        let mut space = Space::uninit();
+        let mut call = InProgress::begin(self, self.course(Kind::Add), &mut space);
+        match call.finish()? {
             End::Parked => Ok(Addition::Idle),
             End::NoPlace => Ok(Addition::NoPlace),
             End::Destroyed => Ok(Addition::Destroyed),
@@ -64,8 +64,9 @@ impl<M: Manager> Shared<M> {
 
     /// Makes objects and parks them, until enough are idle by the settings or no place is free. Returns their number.
     pub fn fill(&self) -> Result<u64, Error<M::Error>> {
-        let mut call = self.begin(Kind::Fill);
-        match call.drive()? {
+        let mut space = Space::uninit();
+        let mut call = InProgress::begin(self, self.course(Kind::Fill), &mut space);
+        match call.finish()? {
             End::Complete => Ok(call.count()),
             // A closed pool has enough, whatever the journal has room for.
             _ if self.lock().core.is_closed() => Ok(call.count()),
@@ -75,32 +76,43 @@ impl<M: Manager> Shared<M> {
 
     /// Examines idle objects, as many as the settings say.
     pub fn evict(&self) -> Result<Eviction, Error<M::Error>> {
-        let mut call = self.begin(Kind::Evict);
-        match call.drive()? {
+        self.evict_by(self.course(Kind::Evict))
+    }
+
+    fn evict_by(&self, course: Course<M>) -> Result<Eviction, Error<M::Error>> {
+        let mut space = Space::uninit();
+        let mut call = InProgress::begin(self, course, &mut space);
+        match call.finish()? {
             End::Complete => Ok(Eviction {
                 examined: call.count(),
-                destroyed: call.destroyed(),
+                destroyed: call.call.destroyed(),
             }),
             end => Err(call.error(end)),
         }
     }
 
-    /// Runs an eviction. If objects have a lifetime, it then looks at the age of those that were idle and that the run left out.
+    /// Runs an eviction. If objects have a lifetime, further runs look at their ages, until as many were examined as were idle, or a run examines
+    /// none.
     fn evict_for_maintenance(&self) -> Result<Eviction, Error<M::Error>> {
         let idle = self.lock().values.len() as u64;
-        let mut eviction = self.evict()?;
-        if self.policy.max_lifetime.is_some() {
-            let rest = self.examine_ages(idle.saturating_sub(eviction.examined))?;
-            eviction.examined += rest.examined;
-            eviction.destroyed += rest.destroyed;
+        let mut all = self.evict()?;
+        let mut is_over = self.policy.max_lifetime.is_none();
+        while !is_over && all.examined < idle {
+            let mut course = self.course(Kind::Evict);
+            course.sees_ages_only = true;
+            let run = self.evict_by(course)?;
+            all.examined += run.examined;
+            all.destroyed += run.destroyed;
+            is_over = run.examined == 0;
         }
-        Ok(eviction)
+        Ok(all)
     }
 
     /// Reclaims abandoned objects. Returns their number.
     pub fn reclaim(&self) -> Result<u64, Error<M::Error>> {
-        let mut call = self.begin(Kind::Reclaim);
-        match call.drive()? {
+        let mut space = Space::uninit();
+        let mut call = InProgress::begin(self, self.course(Kind::Reclaim), &mut space);
+        match call.finish()? {
             End::Complete => Ok(call.count()),
             end => Err(call.error(end)),
         }
@@ -108,7 +120,7 @@ impl<M: Manager> Shared<M> {
 
     /// Runs an eviction, then a reclaim of abandoned objects, then a fill.
     pub fn maintain(&self) -> Result<Maintenance, Error<M::Error>> {
-        drop(self.pass_wakes_on(self.lock()));
+        self.pass_wakes_on();
         Ok(Maintenance {
             eviction: self.evict_for_maintenance()?,
             reclaimed: self.reclaim()?,
@@ -118,7 +130,8 @@ impl<M: Manager> Shared<M> {
 
     /// Destroys the idle objects. Returns their number.
     pub fn clear(&self) -> Result<u64, Error<M::Error>> {
-        let mut call = self.begin(Kind::Clear);
+        let mut space = Space::uninit();
+        let mut call = InProgress::begin(self, self.course(Kind::Clear), &mut space);
         match drive_though_destruction_panics(&mut call)? {
             End::Complete => Ok(call.count()),
             end => Err(call.error(end)),
@@ -130,7 +143,8 @@ impl<M: Manager> Shared<M> {
         if let Some(maintainer) = &*self.maintainer() {
             maintainer.stop();
         }
-        let mut call = self.begin(Kind::Close);
+        let mut space = Space::uninit();
+        let mut call = InProgress::begin(self, self.course(Kind::Close), &mut space);
         self.wake_for_room(self.lock());
         // The first close never fails. A later one has nothing to do.
         let closed = caught(|| drive_though_destruction_panics(&mut call));
@@ -144,11 +158,11 @@ impl<M: Manager> Shared<M> {
 
 /// Goes on to the end of a call, also if the manager panics meanwhile. Then the first panic continues, unless this thread panics already.
 fn drive_though_destruction_panics<M: Manager>(
-    call: &mut InProgress<M, &Shared<M>>,
+    call: &mut InProgress<'_, M>,
 ) -> Result<End, Error<M::Error>> {
     let mut first = None;
     let done = loop {
-        match (caught(|| call.drive()), &first) {
+        match (caught(|| call.finish()), &first) {
             (Ok(done), _) => break done,
             (Err(panic), None) => first = Some(panic),
             (Err(panic), Some(_)) => panic.ignore(),

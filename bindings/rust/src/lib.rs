@@ -3,10 +3,8 @@
 //! **Proved** is each step of the core: its answer, the entry that it appends to the journal, and that a completing step never fails. In every
 //! legal journal no object is made beyond `maxTotal`, none is lent to two at once, and none that was made is lost. Proved is also what a
 //! call asks for next, of the core and of the manager, and which of the calls that wait is woken. **Tested, not proved** is this crate: its lock,
-//! the sleep of threads and tasks, the values of the objects, their ages ([`Builder::max_lifetime`]), and the binding of the C library. So is the
-//! order of two steps of the core and the calls of the manager between them, where an idle object is activated or tested for a borrow while none
-//! waits, and where a returned one is tested or passivated. But **the journal of a run can be checked**: `pool check SETTINGS JOURNAL` says
-//! whether the answers in this very run were the expected ones.
+//! the sleep of threads and tasks, the values of the objects, their ages ([`Builder::max_lifetime`]), and the binding of the C library. But
+//! **the journal of a run can be checked**: `pool check SETTINGS JOURNAL` says whether the answers in this very run were the expected ones.
 //!
 //! A [`Manager`] makes objects; a [`Pool`] lends them, as [`Pooled`] guards that return them when they are dropped.
 //! Tasks borrow with [`Pool::get_async`], over a [`Manager`] or an [`AsyncManager`].
@@ -71,7 +69,6 @@
 )))]
 compile_error!("zuphinka needs Linux on x86-64: its core is a static library for it");
 
-mod ages;
 mod appended;
 mod async_manager;
 mod builder;
@@ -80,6 +77,7 @@ mod caller_names;
 mod callers;
 mod clock;
 mod contradictions;
+mod counts;
 mod course;
 mod ending;
 mod error;
@@ -100,7 +98,6 @@ mod maintenance;
 mod manager;
 mod metrics;
 mod outlet;
-mod pairs;
 mod panics;
 mod pauses;
 mod pool;
@@ -113,10 +110,10 @@ mod room_waits;
 mod segment_folder;
 mod segments;
 mod settings;
+mod settling;
 mod shared;
 mod sleepers;
 mod start;
-mod step;
 mod stored_journal;
 mod storing;
 mod sys;
@@ -131,6 +128,7 @@ pub use async_manager::{Async, AsyncManager};
 pub use builder::Builder;
 pub use caller_names::CallerName;
 pub use callers::caller_number;
+pub use counts::Counts;
 pub use error::{Contradiction, Error, OpenError, ReconfigureError, SettingsError};
 pub use failure::Failure;
 pub use get::Get;
@@ -146,7 +144,6 @@ pub use segment_folder::SegmentFolder;
 pub use segments::{Segment, SegmentSink, Segments, SinkFailure};
 pub use settings::Abandoned;
 pub use start::Start;
-pub use step::Counts;
 pub use timeouts::Timeout;
 
 // The tests in `src` share what those in `tests` do, which name this crate.

@@ -1,13 +1,14 @@
 //! The state that a pool's lock protects.
 
+use crate::call::Kind;
 use crate::clock::{Aged, Moment};
 use crate::metrics::Measures;
-use crate::proved_core::{CallCopy, Core};
+use crate::proved_core::{Begun, Call, CallCopy, Core, CoreFault, Space};
 use crate::settings::Setup;
 use crate::sleepers::Sleepers;
-use crate::step::StepFault;
 use crate::stored_journal::{Mode, StoredJournal};
-use crate::values::{Loan, Values};
+use crate::sys::Start;
+use crate::values::Values;
 use crate::woken::LONGEST_WAKE;
 use std::time::{Duration, Instant};
 
@@ -46,66 +47,34 @@ impl<T> LockedPool<T> {
         self.last_time
     }
 
+    /// Begins a call at a time, and takes its first steps. A place is set aside before for an object that may be made. Waits of a borrow begin with
+    /// the next millisecond.
+    #[inline(always)]
+    pub fn begin<'a>(&mut self, start: Start, at: Moment, space: &'a mut Space) -> Begun<'a> {
+        let needs_place = start.kind.makes() && self.values.len() == 0;
+        if needs_place && self.values.reserve().is_err() {
+            return Begun::On(Call::without_memory(space));
+        }
+        let at = self.tell(match start.kind {
+            Kind::Borrow => at.rounded_up(),
+            _ => at,
+        });
+        self.core.begin(&Start { at, ..start }, space)
+    }
+
     /// Returns the greatest time that the core was told, in milliseconds.
     pub fn last_time(&self) -> u64 {
         self.last_time
     }
 
-    /// Lends an idle object, if the core does so at once.
-    #[inline]
-    pub fn lend(&mut self, caller: u32, at: Moment) -> Option<Loan<Aged<T>>> {
-        if self.values.len() == 0 {
-            return None;
-        }
-        let time = self.tell(at);
-        let (id, token) = self.core.lend(caller, time)?;
-        self.measures.waits.count(at.nanos, at.nanos);
-        let object = self.values.take(token).lent_at(at);
-        Some(Loan { id, token, object })
-    }
-
-    /// Makes a returned object idle, if the core does so at once. Returns it otherwise.
-    #[inline]
-    pub fn take_back(
-        &mut self,
-        caller: u32,
-        at: Moment,
-        loan: Loan<Aged<T>>,
-    ) -> Option<Loan<Aged<T>>> {
-        let time = self.tell(at);
-        if !self.core.take_back(caller, time, loan.id, loan.token) {
-            return Some(loan);
-        }
-        self.measures.loans.count(loan.object.lent, at.nanos);
-        self.values.put(loan.token, loan.object);
-        None
-    }
-
-    /// Takes an idle object by the first step of a borrow, if the core does so at once.
-    #[inline]
-    pub fn take(&mut self, caller: u32, at: Moment) -> Option<Loan<Aged<T>>> {
-        if self.values.len() == 0 {
-            return None;
-        }
-        let time = self.tell(at);
-        let (id, token) = self.core.take(caller, time)?;
-        let object = self.values.take(token);
-        Some(Loan { id, token, object })
-    }
-
-    /// Takes the first step of the return of an object, if the core does so at once. Returns whether it does.
+    /// Returns whether a task was woken long ago, for an object or for room in the journal, and has not been polled since then.
     #[inline(always)]
-    pub fn check(&mut self, caller: u32, at: Moment, loan: &Loan<Aged<T>>) -> bool {
-        let time = self.tell(at);
-        let is_checked = self.core.check(caller, time, loan.id);
-        if is_checked {
-            self.measures.loans.count(loan.object.lent, at.nanos);
-            self.care_for_journal();
-        }
-        is_checked
+    pub fn has_unheeded(&self) -> bool {
+        let wakers = &self.journal.room_wakers;
+        self.sleepers.woken.has_older(LONGEST_WAKE) || wakers.woken.has_older(LONGEST_WAKE)
     }
 
-    /// Returns the call of a task that was woken long ago, for an object or for room in the journal, and has not been polled since then.
+    /// Returns the call of such a task.
     pub fn take_unheeded(&mut self) -> Option<CallCopy> {
         let for_object = self.sleepers.woken.take_older(LONGEST_WAKE);
         let wakers = &mut self.journal.room_wakers;
@@ -122,21 +91,20 @@ impl<T> LockedPool<T> {
         usize::try_from(others).unwrap_or(usize::MAX) + self.sleepers.older(ticket)
     }
 
-    /// Asks for a writer of a segment, if one is due.
-    #[inline]
-    pub fn care_for_journal(&mut self) {
-        if self.journal.mode() == Mode::Segments {
-            self.look_at_journal();
-        }
+    /// Asks for a writer of a segment, if one is due. Returns whether a segment is to be written, and no thread does.
+    #[inline(always)]
+    pub fn care_for_journal(&mut self) -> bool {
+        self.journal.mode() == Mode::Segments && self.look_at_journal()
     }
 
     #[cold]
-    fn look_at_journal(&mut self) {
+    fn look_at_journal(&mut self) -> bool {
         let stored = self.core.steps();
         if self.journal.is_long(stored) {
             let room = self.core.room();
             self.journal.look(stored, room);
         }
+        self.journal.wants_writer()
     }
 
     /// Drops the stored entries if they are not kept. Returns whether some were dropped, so that a call may be tried again.
@@ -146,14 +114,14 @@ impl<T> LockedPool<T> {
     }
 
     /// Cuts the journal: its entries are not stored any more. If it fails, nothing changes.
-    pub fn cut(&mut self) -> Result<(), StepFault> {
+    pub fn cut(&mut self) -> Result<(), CoreFault> {
         self.core.cut()?;
         self.plan_segment();
         Ok(())
     }
 
     /// Cuts the journal, and goes on with other settings. Then the calls of `next_wake` are to be woken. If it fails, nothing changes.
-    pub fn reconfigure(&mut self, setup: Setup) -> Result<(), StepFault> {
+    pub fn reconfigure(&mut self, setup: Setup) -> Result<(), CoreFault> {
         self.core.reconfigure(&setup.text)?;
         self.setup = setup;
         self.plan_segment();

@@ -1,6 +1,6 @@
 //! What a pool measures, and its text in the OpenMetrics format.
 
-use crate::step::Counts;
+use crate::counts::Counts;
 use std::fmt::{self, Display, Formatter, Write};
 
 /// The greatest time of each bucket but the last, which has no limit: in nanoseconds, and in seconds as the text has it.

@@ -1,6 +1,7 @@
 //! The handles of a pool that threads share, with all calls of users, and its weak handles.
 
 use crate::builder::Builder;
+use crate::counts::Counts;
 use crate::error::{Error, OpenError, ReconfigureError};
 use crate::get::Get;
 use crate::handle::{Handle, WeakHandle};
@@ -9,7 +10,6 @@ use crate::manager::Manager;
 use crate::metrics::Metrics;
 use crate::pooled::Pooled;
 use crate::shared::WaitLimit;
-use crate::step::Counts;
 use std::fmt;
 use std::future::Future;
 use std::io::{self, Write};
@@ -238,7 +238,7 @@ impl<M: Manager> Pool<M> {
 
     /// Maintains the pool: calls [`evict`](Pool::evict), [`reclaim`](Pool::reclaim) and [`fill`](Pool::fill), in this order. Call it now
     /// and then, or have the pool's own thread call it ([`Builder::maintain_every`]). If objects have a lifetime
-    /// ([`Builder::max_lifetime`]), it examines all idle objects, whatever [`Builder::tests_per_eviction_run`] says.
+    /// ([`Builder::max_lifetime`]), further runs look at their ages only, until as many were examined as were idle.
     ///
     /// # Errors
     ///

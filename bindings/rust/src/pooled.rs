@@ -71,12 +71,7 @@ impl<M: Manager> Pooled<M> {
     #[must_use = "the object is the caller's; `invalidate` has the manager destroy it"]
     pub fn detach(mut this: Pooled<M>) -> M::Object {
         let Loan { id, token, object } = this.end().expect(LENT);
-        let detached = Loan {
-            id,
-            token,
-            object: (),
-        };
-        this.pool.detach(detached, object.lent);
+        this.pool.detach(id, token, object.lent);
         object.object
     }
 
@@ -105,6 +100,7 @@ impl<M: Manager> DerefMut for Pooled<M> {
 }
 
 impl<M: Manager> Drop for Pooled<M> {
+    #[inline(never)]
     fn drop(&mut self) {
         let Some(loan) = self.end() else {
             return;

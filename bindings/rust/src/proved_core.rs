@@ -1,17 +1,17 @@
-//! The proved core, over its C library. All code that is `unsafe` is here, in `exits`, which asks C's library to be told of the end, and in `clock`,
-//! which reads the system's.
+//! The proved core, over its C library. All code that is `unsafe` is here, in `locked`, which has the lock, in `exits`, which asks C's library to be
+//! told of the end, and in `clock`, which reads the system's.
 
-use crate::call::{action_of, Action, End, Kind, Report};
-use crate::step::{Answer, Counts, Request, StepFault};
+use crate::call::{Action, End, Kind, Report};
+use crate::counts::Counts;
 use crate::sys;
 use std::ffi::c_char;
+use std::io;
+use std::mem::MaybeUninit;
+use std::ptr::{addr_of, addr_of_mut};
 
 /// A function of the library that returns a line.
 type LineFunction =
     unsafe extern "C" fn(*mut sys::Handle, u64, *mut c_char, usize, *mut u64) -> u32;
-
-/// A function of the library that lends or takes an object at once.
-type LoanFunction = unsafe extern "C" fn(*mut sys::Handle, u32, u64, *mut sys::Loan) -> u32;
 
 /// A function of the library that stores what it reads, and never fails.
 type ReadFunction<T> = unsafe extern "C" fn(*mut sys::Handle, *mut T) -> u32;
@@ -20,84 +20,131 @@ type ReadFunction<T> = unsafe extern "C" fn(*mut sys::Handle, *mut T) -> u32;
 /// Tokens are numbers here, and are never dereferenced.
 pub(crate) struct Core {
     handle: sys::Handle,
-    /// How many calls wait, or more: a task may be forgotten that waits.
-    tickets: u64,
 }
 
 // SAFETY: the library has no state except that of the handle, whose calls may come from any thread, one at a time.
 unsafe impl Send for Core {}
-
-/// The beginning of a call: its kind, its caller and the time, in milliseconds. It may be for an object, which has an id and a token. A borrow has for
-/// its id by how many milliseconds it may wait longer than the settings say.
-#[derive(Clone, Copy, Debug)]
-pub(crate) struct Start {
-    pub kind: Kind,
-    pub caller: u32,
-    pub at: u64,
-    pub id: u64,
-    pub token: u64,
-}
-
-/// What became of the last action of a call. The token is that of an object that was made.
-#[derive(Clone, Copy, Debug)]
-pub(crate) struct Event {
-    pub report: Report,
-    pub caller: u32,
-    pub at: u64,
-    pub token: u64,
-}
 
 /// A copy of a call in progress, by which it is given up for its task.
 #[derive(Clone, Copy, Debug, Default)]
 pub(crate) struct CallCopy(sys::Call);
 
 /// A call, and what it does next.
+#[derive(Clone, Copy)]
 pub(crate) struct Call {
-    progress: sys::Call,
+    /// The library writes it when the call begins. It is initialised unless the action is the last one.
+    progress: MaybeUninit<sys::Call>,
     effects: sys::Effects,
 }
 
-impl Call {
-    /// A call that has not begun, and does nothing.
-    pub fn new() -> Call {
-        Call::ended(sys::END_CANCELLED)
-    }
+/// Where a call begins: it is written there in place.
+pub(crate) type Space = MaybeUninit<Call>;
 
-    fn ended(end: u32) -> Call {
+/// The id and the token of an object.
+#[derive(Clone, Copy)]
+pub(crate) struct Named {
+    pub id: u64,
+    pub token: u64,
+}
+
+/// A call that has begun.
+pub(crate) enum Begun<'a> {
+    /// It is over: this object is lent, or the returned one is idle, and nobody is to be woken.
+    AtOnce(Named),
+    On(&'a mut Call),
+}
+
+impl Call {
+    /// A call that is over, and was given up by its copy.
+    #[cold]
+    pub fn cancelled() -> Call {
         Call {
-            progress: sys::Call::default(),
+            progress: MaybeUninit::uninit(),
             effects: sys::Effects {
                 action: sys::ACTION_DONE,
-                end,
+                end: sys::END_CANCELLED,
                 ..sys::Effects::default()
             },
         }
     }
 
-    /// It ends, since there is no memory for it.
+    /// A call that ended as it began, since there is no memory for it.
     #[cold]
-    pub fn lack_memory(&mut self) {
-        *self = Call::ended(sys::END_OUT_OF_MEMORY);
+    pub fn without_memory(space: &mut Space) -> &mut Call {
+        let call = space.write(Call::cancelled());
+        call.effects.end = sys::END_OUT_OF_MEMORY;
+        call
     }
 
-    /// Returns a copy of the call, which is to be used only while the call itself does not go on.
+    /// Returns whether it is over since an object is lent.
+    #[inline(always)]
+    pub fn has_lent(&self) -> bool {
+        self.effects.end == sys::END_LENT
+    }
+
+    /// Returns whether it asks for work on an object that is there.
+    #[inline(always)]
+    pub fn asks_for_work(&self) -> bool {
+        (sys::ACTION_ACTIVATE..=sys::ACTION_PASSIVATE).contains(&self.effects.action)
+    }
+
+    /// Returns whether a call is to be woken.
+    #[inline(always)]
+    pub fn wakes(&self) -> bool {
+        self.effects.has_wake
+    }
+
+    /// Returns whether it is over.
+    #[inline(always)]
+    pub fn is_over(&self) -> bool {
+        self.effects.action == sys::ACTION_DONE
+    }
+
+    /// A call of a kind that was over at once, with its object.
+    #[cold]
+    pub fn over(kind: Kind, named: Named) -> Call {
+        let mut call = Call::cancelled();
+        call.effects.end = kind.end_at_once();
+        (call.effects.number, call.effects.object) = (named.id, named.token);
+        call
+    }
+
+    /// It is over: its object is lent, or idle, and nobody is to be woken.
+    #[inline(always)]
+    fn end_at_once(&mut self, kind: Kind) {
+        self.effects.action = sys::ACTION_DONE;
+        self.effects.end = kind.end_at_once();
+        self.effects.has_wake = false;
+    }
+
+    /// Returns a copy of a call that is not over, which is to be used only while the call itself does not go on.
     pub fn copy(&self) -> CallCopy {
-        CallCopy(self.progress)
+        assert!(!self.is_over(), "{OVER}");
+        // SAFETY: the call has begun and is not over.
+        CallCopy(unsafe { self.progress.assume_init() })
     }
 
-    #[inline]
+    #[inline(always)]
     pub fn action(&self) -> Action {
-        action_of(self.effects.action, self.effects.end)
+        Action::of(self.effects.action)
+    }
+
+    /// Returns how it ended.
+    #[inline(always)]
+    pub fn end(&self) -> End {
+        End::of(self.effects.end)
     }
 
     /// Returns the id of the object that its action is for, or that is lent.
+    #[inline(always)]
     pub fn number(&self) -> u64 {
         self.effects.number
     }
 
     /// Returns the token of that object, unless it is to be made.
+    #[inline(always)]
     pub fn token(&self) -> u64 {
-        self.effects.object as u64
+        self.effects.object
     }
 
     /// Returns its ticket, if it waits.
@@ -111,7 +158,7 @@ impl Call {
     }
 
     /// Returns the ticket of the call to wake.
-    #[inline]
+    #[inline(always)]
     pub fn wake(&self) -> Option<u64> {
         self.effects.has_wake.then_some(self.effects.wake)
     }
@@ -127,12 +174,28 @@ impl Call {
     }
 }
 
+const OVER: &str = "a call that is over does not go on";
+
 /// Why no core was opened.
 #[derive(Clone, Copy, Debug, PartialEq, Eq)]
 pub(crate) enum OpenFault {
     OutOfMemory,
     /// The settings are invalid: a status of the library.
     Settings(u32),
+}
+
+/// Why lines were not copied, the journal was not cut, or the settings not changed. The core is unchanged.
+#[derive(Clone, Copy, Debug, PartialEq, Eq)]
+pub(crate) enum CoreFault {
+    JournalFull,
+    OutOfMemory,
+}
+
+/// A line is not copied, or a journal not cut, only for lack of memory.
+impl From<CoreFault> for io::Error {
+    fn from(_: CoreFault) -> io::Error {
+        io::ErrorKind::OutOfMemory.into()
+    }
 }
 
 /// Returns the settings of a text. If it is invalid, returns the status of its first error, with the name of the key if it has one.
@@ -170,87 +233,71 @@ impl Core {
         let (text, size) = (settings.as_ptr().cast(), settings.len());
         // SAFETY: the handle is empty, the text has this size, and no two overlap.
         match unsafe { sys::zuphinka_open_with(&mut handle, text, size, options) } {
-            sys::STATUS_DONE => Ok(Core { handle, tickets: 0 }),
+            sys::STATUS_DONE => Ok(Core { handle }),
             sys::STATUS_OUT_OF_MEMORY => Err(OpenFault::OutOfMemory),
             status => Err(OpenFault::Settings(status)),
         }
     }
 
     /// Begins a call, and takes its first steps.
-    #[inline]
-    pub fn begin(&mut self, start: Start, call: &mut Call) {
-        let start = sys::Start {
-            at: start.at,
-            id: start.id,
-            object: start.token as usize,
-            caller: start.caller,
-            kind: start.kind as u32,
-        };
-        let waited = call.effects.has_ticket;
-        let (progress, effects) = (&mut call.progress, &mut call.effects);
+    #[inline(always)]
+    pub fn begin<'a>(&mut self, start: &sys::Start, space: &'a mut Space) -> Begun<'a> {
+        let call = space.as_mut_ptr();
         // SAFETY: the handle is this core's, and no two of the four overlap.
-        match unsafe { sys::zuphinka_begin(&mut self.handle, &start, progress, effects) } {
-            sys::STATUS_DONE => self.count_ticket(waited, call),
+        let status = unsafe {
+            let (progress, effects) = (
+                addr_of_mut!((*call).progress),
+                addr_of_mut!((*call).effects),
+            );
+            sys::zuphinka_begin(&mut self.handle, start, progress.cast(), effects)
+        };
+        match status {
+            // SAFETY: then these two of the effects are written.
+            sys::STATUS_AT_ONCE => Begun::AtOnce(unsafe {
+                Named {
+                    id: addr_of!((*call).effects.number).read(),
+                    token: addr_of!((*call).effects.object).read(),
+                }
+            }),
+            // SAFETY: then the effects are written, and the call too, unless it is over.
+            sys::STATUS_DONE => Begun::On(unsafe { space.assume_init_mut() }),
             status => unreachable!("the beginning of a call has status {status}"),
         }
     }
 
-    /// Counts the ticket of a call that waited before, or did not.
-    #[inline]
-    fn count_ticket(&mut self, waited: bool, call: &Call) {
-        self.tickets += u64::from(call.effects.has_ticket);
-        self.tickets -= u64::from(waited);
-    }
-
-    /// Ends a call that was given up by its copy.
-    #[cold]
-    pub fn cancel(&mut self, call: &mut Call) {
-        let waited = call.effects.has_ticket;
-        *call = Call::ended(sys::END_CANCELLED);
-        self.count_ticket(waited, call);
-    }
-
     /// Goes on with a call in progress after a report of its last action.
-    #[inline]
-    pub fn advance(&mut self, event: Event, call: &mut Call) {
-        let event = sys::Event {
-            at: event.at,
-            object: event.token as usize,
-            caller: event.caller,
-            report: event.report as u32,
-        };
-        let waited = call.effects.has_ticket;
-        let (progress, effects) = (&mut call.progress, &mut call.effects);
-        // SAFETY: the handle is this core's, and no two of the four overlap.
-        match unsafe { sys::zuphinka_advance(&mut self.handle, progress, &event, effects) } {
-            sys::STATUS_DONE => self.count_ticket(waited, call),
+    #[inline(always)]
+    pub fn advance(&mut self, event: &sys::Event, kind: Kind, call: &mut Call) -> bool {
+        assert!(!call.is_over(), "{OVER}");
+        let (progress, effects) = (call.progress.as_mut_ptr(), &mut call.effects);
+        // SAFETY: the handle is this core's, no two of the four overlap, and the call has begun and is not over.
+        match unsafe { sys::zuphinka_advance(&mut self.handle, progress, event, effects) } {
+            sys::STATUS_AT_ONCE => call.end_at_once(kind),
+            sys::STATUS_DONE => return false,
             status => unreachable!("a report to a call has status {status}"),
         }
+        true
     }
 
     /// Gives a call up that waits. Returns the ticket of the call to wake.
     #[cold]
     pub fn give_up(&mut self, copy: CallCopy) -> Option<u64> {
-        let mut call = Call::new();
-        call.progress = copy.0;
-        let event = Event {
-            report: Report::GivenUp,
-            caller: 0,
+        let mut call = Call::cancelled();
+        call.progress.write(copy.0);
+        call.effects.action = sys::ACTION_SLEEP;
+        let event = sys::Event {
             at: 0,
-            token: 0,
+            object: 0,
+            caller: 0,
+            report: Report::GivenUp,
         };
-        self.advance(event, &mut call);
-        debug_assert!(call.action() == Action::Done(End::Cancelled));
+        self.advance(&event, Kind::Borrow, &mut call);
+        debug_assert!(call.is_over());
         call.wake()
     }
 
     /// Returns the ticket of the next call to wake.
-    #[inline]
     pub fn next_wake(&mut self) -> Option<u64> {
-        if self.tickets == 0 {
-            debug_assert_eq!(self.waiting(), 0);
-            return None;
-        }
         let mut ticket = 0;
         // SAFETY: the handle is this core's.
         match unsafe { sys::zuphinka_next_wake(&mut self.handle, &mut ticket) } {
@@ -278,84 +325,8 @@ impl Core {
         self.read(sys::zuphinka_state).is_closed
     }
 
-    /// Takes one step, and appends its entry. Returns the answer, and a token: that of an idle object that is taken, or the one that was passed
-    /// in, unless the core stores it.
-    #[inline(always)]
-    pub fn step(
-        &mut self,
-        caller: u32,
-        at: u64,
-        request: Request,
-        token: u64,
-    ) -> Result<(Answer, u64), StepFault> {
-        let request = sys::Request {
-            at,
-            number: request.id,
-            object: token as usize,
-            caller,
-            input: request.input as u32,
-            outcome: request.outcome as u32,
-        };
-        let mut reply = sys::Reply::default();
-        // SAFETY: the handle is this core's, and no two of the three overlap.
-        match unsafe { sys::zuphinka_step(&mut self.handle, &request, &mut reply) } {
-            sys::STATUS_DONE => Ok((answer_of(&reply), reply.object as u64)),
-            sys::STATUS_JOURNAL_FULL => Err(StepFault::JournalFull),
-            sys::STATUS_OUT_OF_MEMORY => Err(StepFault::OutOfMemory),
-            status => unreachable!("a step has status {status}"),
-        }
-    }
-
-    /// Lends an idle object, if a borrow that begins now needs no more than its two steps: takes both. Returns the object's id and its token. The
-    /// calls of `next_wake` are to be woken then.
-    #[inline(always)]
-    pub fn lend(&mut self, caller: u32, at: u64) -> Option<(u64, u64)> {
-        self.loan_by(sys::zuphinka_lend, caller, at)
-    }
-
-    /// Takes an idle object by the first step of a borrow that begins now. Returns the object's id and its token; nothing if the borrow is to be
-    /// begun. The calls of `next_wake` are to be woken then.
-    #[inline(always)]
-    pub fn take(&mut self, caller: u32, at: u64) -> Option<(u64, u64)> {
-        self.loan_by(sys::zuphinka_take, caller, at)
-    }
-
-    #[inline(always)]
-    fn loan_by(&mut self, function: LoanFunction, caller: u32, at: u64) -> Option<(u64, u64)> {
-        let mut loan = sys::Loan::default();
-        // SAFETY: the handle is this core's, and does not overlap the loan.
-        let status = unsafe { function(&mut self.handle, caller, at, &mut loan) };
-        is_done_at_once(status).then_some((loan.id, loan.object as u64))
-    }
-
-    /// Takes the first step of the return of an object. Returns whether it does; otherwise the return is to be begun.
-    #[inline(always)]
-    pub fn check(&mut self, caller: u32, at: u64, id: u64) -> bool {
-        // SAFETY: the handle is this core's.
-        is_done_at_once(unsafe { sys::zuphinka_check(&mut self.handle, caller, at, id) })
-    }
-
-    /// Takes a lent object back, if it is idle after the two steps of its return: takes both. Returns whether it does.
-    #[inline(always)]
-    pub fn take_back(&mut self, caller: u32, at: u64, id: u64, token: u64) -> bool {
-        let object = token as usize;
-        let loan = sys::Loan { id, object };
-        // SAFETY: the handle is this core's, and does not overlap the loan.
-        is_done_at_once(unsafe { sys::zuphinka_take_back(&mut self.handle, caller, at, &loan) })
-    }
-
     pub fn counts(&mut self) -> Counts {
-        let counts = self.read(sys::zuphinka_counts);
-        Counts {
-            steps: counts.steps,
-            idle: counts.idle,
-            lent: counts.lent,
-            reserved: counts.reserved,
-            created: counts.created,
-            destroyed: counts.destroyed,
-            evicted: counts.evicted,
-            reclaimed: counts.reclaimed,
-        }
+        self.read(sys::zuphinka_counts)
     }
 
     /// Returns the number of entries since the last cut.
@@ -373,7 +344,7 @@ impl Core {
     /// # Errors
     ///
     /// An allocation failed. The text is unchanged.
-    pub fn line(&mut self, position: u64, text: &mut Vec<u8>) -> Result<bool, StepFault> {
+    pub fn line(&mut self, position: u64, text: &mut Vec<u8>) -> Result<bool, CoreFault> {
         self.append(sys::zuphinka_line, position, text)
     }
 
@@ -383,7 +354,7 @@ impl Core {
     /// # Errors
     ///
     /// An allocation failed. The text is unchanged.
-    pub fn base_line(&mut self, position: u64, text: &mut Vec<u8>) -> Result<bool, StepFault> {
+    pub fn base_line(&mut self, position: u64, text: &mut Vec<u8>) -> Result<bool, CoreFault> {
         self.append(sys::zuphinka_base, position, text)
     }
 
@@ -392,7 +363,7 @@ impl Core {
         function: LineFunction,
         position: u64,
         text: &mut Vec<u8>,
-    ) -> Result<bool, StepFault> {
+    ) -> Result<bool, CoreFault> {
         let (mut line, mut size) = ([0u8; sys::LONGEST_LINE], 0);
         // SAFETY: the handle is this core's, the buffer has this size, and no two overlap.
         let status = unsafe {
@@ -402,12 +373,12 @@ impl Core {
         match status {
             sys::STATUS_DONE => {
                 text.try_reserve(size as usize)
-                    .map_err(|_| StepFault::OutOfMemory)?;
+                    .map_err(|_| CoreFault::OutOfMemory)?;
                 text.extend_from_slice(&line[..size as usize]);
                 Ok(true)
             }
             sys::STATUS_NO_ENTRY => Ok(false),
-            sys::STATUS_OUT_OF_MEMORY => Err(StepFault::OutOfMemory),
+            sys::STATUS_OUT_OF_MEMORY => Err(CoreFault::OutOfMemory),
             status => unreachable!("a line has status {status}"),
         }
     }
@@ -417,11 +388,11 @@ impl Core {
     /// # Errors
     ///
     /// An allocation failed. The core is unchanged.
-    pub fn cut(&mut self) -> Result<(), StepFault> {
+    pub fn cut(&mut self) -> Result<(), CoreFault> {
         // SAFETY: the handle is this core's.
         match unsafe { sys::zuphinka_cut(&mut self.handle) } {
             sys::STATUS_DONE => Ok(()),
-            sys::STATUS_OUT_OF_MEMORY => Err(StepFault::OutOfMemory),
+            sys::STATUS_OUT_OF_MEMORY => Err(CoreFault::OutOfMemory),
             status => unreachable!("a cut has status {status}"),
         }
     }
@@ -431,13 +402,13 @@ impl Core {
     /// # Errors
     ///
     /// The settings leave no room in the journal for the outstanding entries, or an allocation failed. The core is unchanged.
-    pub fn reconfigure(&mut self, settings: &str) -> Result<(), StepFault> {
+    pub fn reconfigure(&mut self, settings: &str) -> Result<(), CoreFault> {
         let (text, size) = (settings.as_ptr().cast(), settings.len());
         // SAFETY: the handle is this core's, the text has this size, and they do not overlap.
         match unsafe { sys::zuphinka_reconfigure(&mut self.handle, text, size) } {
             sys::STATUS_DONE => Ok(()),
-            sys::STATUS_JOURNAL_FULL => Err(StepFault::JournalFull),
-            sys::STATUS_OUT_OF_MEMORY => Err(StepFault::OutOfMemory),
+            sys::STATUS_JOURNAL_FULL => Err(CoreFault::JournalFull),
+            sys::STATUS_OUT_OF_MEMORY => Err(CoreFault::OutOfMemory),
             status => unreachable!("other settings have status {status}"),
         }
     }
@@ -447,34 +418,5 @@ impl Drop for Core {
     fn drop(&mut self) {
         // SAFETY: the handle is this core's, and is not used again.
         unsafe { sys::zuphinka_drop(&mut self.handle) }
-    }
-}
-
-/// Returns whether steps were taken at once; otherwise the call that takes them is to be begun.
-#[inline(always)]
-fn is_done_at_once(status: u32) -> bool {
-    match status {
-        sys::STATUS_DONE => true,
-        sys::STATUS_NOT_AT_ONCE => false,
-        status => unreachable!("steps that are taken at once have status {status}"),
-    }
-}
-
-#[inline]
-fn answer_of(reply: &sys::Reply) -> Answer {
-    match reply.answer {
-        sys::ANSWER_LENT => Answer::Lent,
-        sys::ANSWER_CHECK => Answer::Check,
-        sys::ANSWER_PARKED => Answer::Parked,
-        sys::ANSWER_KEPT => Answer::Kept,
-        sys::ANSWER_KEPT_IDLE => Answer::KeptIdle,
-        sys::ANSWER_DESTROY => Answer::Destroy,
-        sys::ANSWER_DESTROY_IDLE => Answer::DestroyIdle(reply.number),
-        sys::ANSWER_TEST => Answer::Test(reply.number),
-        sys::ANSWER_FREED => Answer::Freed,
-        sys::ANSWER_GONE => Answer::Gone,
-        sys::ANSWER_NOTHING => Answer::Nothing,
-        sys::ANSWER_REFUSED => Answer::Refused,
-        code => unreachable!("a step has answer {code}"),
     }
 }

@@ -37,7 +37,7 @@ impl<M: Manager> Shared<M> {
         let mut state = self.lock();
         state.reconfigure(change)?;
         let first = state.end_of_stored();
-        self.leave_after_step(state);
+        self.leave_after_change(state);
         Ok(first)
     }
 

@@ -20,9 +20,10 @@ pub(crate) enum Room {
 }
 
 /// Why there is no room for a call.
-#[derive(Clone, Copy, Debug, PartialEq, Eq)]
+#[derive(Clone, Copy, Debug, Default, PartialEq, Eq)]
 pub(crate) enum NoRoom {
     /// The journal is full, and nobody stores what it has: it has no sink, or that fails.
+    #[default]
     Full,
     /// Another thread stores a segment, and the call may not wait for it.
     Busy,

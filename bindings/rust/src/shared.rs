@@ -4,7 +4,7 @@ use crate::call::Kind;
 use crate::clock::{Aged, Clock, Moment};
 use crate::failure::Failure;
 use crate::leaks::LeakWatch;
-use crate::locked::{Guard, Locked};
+use crate::locked::{Bell, Guard, Locked};
 use crate::locked_pool::LockedPool;
 use crate::maintenance::Maintainer;
 use crate::manager::Manager;
@@ -16,7 +16,7 @@ use crate::reports::Reports;
 use crate::settings::{Settings, Setup};
 use crate::sleepers::{OldestSleeper, Wakes};
 use crate::storing::Orders;
-use std::sync::{Arc, Condvar, Mutex, MutexGuard, PoisonError};
+use std::sync::{Arc, Mutex, MutexGuard, PoisonError};
 use std::time::{Duration, Instant};
 use std::{mem, process, thread};
 
@@ -44,10 +44,17 @@ pub(crate) struct Policy<M: Manager> {
 }
 
 impl<M: Manager> Policy<M> {
-    /// Returns what a pool makes of settings: its journal may have a limit of its own, and the core tests idle objects that have a lifetime.
+    /// Returns what a pool makes of settings: its journal may have a limit of its own, and the core tests idle objects that have a lifetime, one of them
+    /// in each run at least.
     pub fn setup(&self, mut settings: Settings) -> Setup {
-        let tests_idle = settings.test_while_idle;
-        settings.test_while_idle |= self.max_lifetime.is_some();
+        let mut tests_idle = settings.test_while_idle;
+        if self.max_lifetime.is_some() {
+            settings.test_while_idle = true;
+            if settings.num_tests_per_eviction_run == 0 {
+                settings.num_tests_per_eviction_run = 1;
+                tests_idle = false;
+            }
+        }
         if let Some(entries) = self.journal_limit {
             settings.journal_limit = i64::try_from(entries).unwrap_or(i64::MAX);
         }
@@ -65,9 +72,9 @@ pub(crate) struct Shared<M: Manager> {
     oldest_asleep: Arc<OldestSleeper>,
     clock: Clock,
     /// The journal was cut, or the thread that cut it is done.
-    pub written: Condvar,
+    pub written: Bell,
     /// An object or a call has ended, if a thread waits for the end of all.
-    pub ended: Condvar,
+    pub ended: Bell,
     /// Held by a thread that drains the journal. It may take the lock of the state.
     pub draining: Mutex<()>,
     /// Where segments go.
@@ -101,8 +108,8 @@ impl<M: Manager> Shared<M> {
             oldest_asleep: state.sleepers.oldest(),
             state: Locked::new(state),
             clock,
-            written: Condvar::new(),
-            ended: Condvar::new(),
+            written: Bell::new(),
+            ended: Bell::new(),
             draining: Mutex::new(()),
             outlet,
             manager: Arc::new(manager),
@@ -219,18 +226,6 @@ impl<M: Manager> Shared<M> {
         self.state.try_lock()
     }
 
-    /// Returns whether an idle object is lent without a call of the manager.
-    #[inline]
-    pub fn lends_at_once(&self, state: &LockedPool<M::Object>) -> bool {
-        !M::ACTIVATES && !state.setup.settings.test_on_borrow
-    }
-
-    /// Returns whether an object is idle after its return without a call of the manager.
-    #[inline]
-    pub fn parks_at_once(&self, state: &LockedPool<M::Object>) -> bool {
-        !M::PASSIVATES && !state.setup.settings.test_on_return
-    }
-
     /// Returns whether a call that lacks room in the journal or memory fails since the pool is closed: a closed pool is closed, whatever else is
     /// wrong.
     #[cold]
@@ -240,7 +235,6 @@ impl<M: Manager> Shared<M> {
 
     /// Frees the lock, and wakes the calls that may find something: those that the core has told, and then those that it tells. Then it writes a
     /// segment if one is due.
-    #[inline(always)]
     pub fn leave(&self, state: Held<'_, M>, wakes: Wakes) {
         let is_due = state.journal.wants_writer();
         self.leave_with_loan(state, wakes);
@@ -250,39 +244,27 @@ impl<M: Manager> Shared<M> {
     }
 
     /// Does the same in a call that lends an object, works on one or waits: it goes on at once, and a later call writes the segment.
-    #[inline(always)]
     pub fn leave_with_loan(&self, state: Held<'_, M>, wakes: Wakes) {
-        match wakes.is_empty() {
-            true => drop(state),
-            false => self.wake(state, wakes),
+        if !wakes.is_empty() {
+            self.wake(state, wakes);
         }
     }
 
-    /// Frees the lock after steps, and wakes the calls that may find something. Then it writes a segment if one is due.
+    /// Frees the lock after the end of a call that wakes nobody. Then it writes a segment if one is due.
     #[inline(always)]
-    pub fn leave_after_step(&self, mut state: Held<'_, M>) {
-        state.care_for_journal();
-        let is_due = state.journal.wants_writer();
-        self.leave_told(state);
+    pub fn leave_after_end(&self, mut state: Held<'_, M>) {
+        let is_due = state.care_for_journal();
+        drop(state);
         if is_due {
             self.write_due();
         }
     }
 
-    /// Does the same with an object in hand, which others may wait for: it goes on at once, and a later call writes the segment.
-    #[inline(always)]
-    pub fn leave_to_work(&self, mut state: Held<'_, M>) {
+    /// Frees the lock after a change of the settings, and wakes the calls that the core tells.
+    pub fn leave_after_change(&self, mut state: Held<'_, M>) {
         state.care_for_journal();
-        self.leave_told(state);
-    }
-
-    /// Frees the lock, and wakes the calls that the core tells.
-    #[inline(always)]
-    fn leave_told(&self, mut state: Held<'_, M>) {
-        match state.core.next_wake() {
-            None => drop(state),
-            told => self.wake(state, Wakes::of(told)),
-        }
+        let wakes = Wakes::of(state.core.next_wake());
+        self.leave(state, wakes);
     }
 
     /// Wakes calls, each without the lock. If the waker of a task panics, its call is given up, and another one is woken in its place.
@@ -312,15 +294,27 @@ impl<M: Manager> Shared<M> {
         }
     }
 
-    /// Passes the wakes on of tasks that have not been polled for long: their calls are given up, and others woken in their place. Frees the lock
-    /// meanwhile, and takes it again.
-    pub fn pass_wakes_on<'a>(&'a self, mut state: Held<'a, M>) -> Held<'a, M> {
+    /// Takes the lock, after the wakes are passed on of tasks that have not been polled for long.
+    #[inline(always)]
+    pub fn lock_after_wakes(&self) -> Held<'_, M> {
+        let mut state = self.lock();
+        if state.has_unheeded() {
+            drop(state);
+            self.pass_wakes_on();
+            state = self.lock();
+        }
+        state
+    }
+
+    /// Passes the wakes on of tasks that have not been polled for long: their calls are given up, and others woken in their place.
+    #[cold]
+    pub fn pass_wakes_on(&self) {
+        let mut state = self.lock();
         while let Some(call) = state.take_unheeded() {
             let wakes = Wakes::of(state.core.give_up(call));
             self.leave_with_loan(state, wakes);
             state = self.lock();
         }
-        state
     }
 
     /// Sleeps until the call with a ticket, which is this thread's, is woken or the time is over. It pauses before, in which a short loan ends:
@@ -340,6 +334,6 @@ impl<M: Manager> Shared<M> {
                 break;
             }
         }
-        self.lock()
+        self.lock_after_wakes()
     }
 }

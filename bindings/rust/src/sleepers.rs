@@ -35,8 +35,8 @@ impl OldestSleeper {
 #[derive(Debug)]
 pub(crate) enum Alarm {
     Thread(Thread),
-    /// The waker of a task, and its call.
-    Task(Waker, CallCopy),
+    /// The waker of a task, which has none before the end of the poll in which it falls asleep, and its call.
+    Task(Option<Waker>, CallCopy),
 }
 
 impl Alarm {
@@ -47,14 +47,8 @@ impl Alarm {
                 thread.unpark();
                 Ok(())
             }
-            Alarm::Task(waker, call) => unless_it_panics(|| waker.wake()).ok_or(call),
-        }
-    }
-
-    pub fn into_waker(self) -> Option<Waker> {
-        match self {
-            Alarm::Thread(_) => None,
-            Alarm::Task(waker, _) => Some(waker),
+            Alarm::Task(None, _) => Ok(()),
+            Alarm::Task(Some(waker), call) => unless_it_panics(|| waker.wake()).ok_or(call),
         }
     }
 }
@@ -154,6 +148,12 @@ impl Sleepers {
         self.position(ticket).is_ok()
     }
 
+    /// Returns whether one sleeps as a task that has no waker yet.
+    pub fn lacks_waker(&self, ticket: u64) -> bool {
+        let position = self.position(ticket);
+        position.is_ok_and(|position| matches!(self.asleep[position].1, Alarm::Task(None, _)))
+    }
+
     /// One falls asleep, or sleeps on with another alarm. Returns the alarm that it had.
     ///
     /// # Errors
@@ -228,7 +228,7 @@ mod tests {
     }
 
     fn alarm(counter: &Arc<Counter>) -> Alarm {
-        Alarm::Task(Waker::from(Arc::clone(counter)), CallCopy::default())
+        Alarm::Task(Some(Waker::from(Arc::clone(counter))), CallCopy::default())
     }
 
     /// Sleepers with these tickets, who came in this order.
@@ -317,7 +317,7 @@ mod tests {
                 std::panic::resume_unwind(Box::new(()));
             }
         }
-        let waker = Waker::from(Arc::new(Broken));
+        let waker = Some(Waker::from(Arc::new(Broken)));
         assert!(Alarm::Task(waker, CallCopy::default()).ring().is_err());
     }
 }

@@ -1,8 +1,8 @@
 //! The state of a pool's journal that the pool's lock protects, beside the entries themselves, which the core has.
 
+use crate::counts::Counts;
 use crate::room::NoRoom;
 use crate::room_waits::RoomWakers;
-use crate::step::Counts;
 use std::sync::Arc;
 use std::thread::{self, ThreadId};
 
@@ -156,7 +156,7 @@ impl StoredJournal {
 #[cfg(test)]
 mod tests {
     use super::{Mode, StoredJournal};
-    use crate::step::Counts;
+    use crate::counts::Counts;
 
     /// Returns at how many entries the journal is looked at.
     fn looked_at(journal: &StoredJournal) -> u64 {

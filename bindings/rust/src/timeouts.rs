@@ -1,6 +1,5 @@
 //! What a call that timed out tells.
 
-use crate::clock::Moment;
 use crate::error::Error;
 use crate::manager::Manager;
 use crate::room::NoRoom;
@@ -59,10 +58,10 @@ fn in_millis(time: Duration) -> Duration {
 }
 
 impl<M: Manager> Shared<M> {
-    /// Returns the error of a call that began at a time and has waited for as long as it may, perhaps for the sink.
+    /// Returns the error of a call that began at a time, in nanoseconds, and has waited for as long as it may, perhaps for the sink.
     #[cold]
-    pub fn timed_out(&self, began: Moment, for_sink: bool) -> Error<M::Error> {
-        let passed = self.now().nanos.wrapping_sub(began.nanos);
+    pub fn timed_out(&self, began: u64, for_sink: bool) -> Error<M::Error> {
+        let passed = self.now().nanos.wrapping_sub(began);
         // A clock may go back.
         let passed = if passed > u64::MAX / 2 { 0 } else { passed };
         let mut state = self.lock();
@@ -84,7 +83,7 @@ impl<M: Manager> Shared<M> {
 
     /// Returns the error of a call that began at a time, for which there is no room in the journal.
     #[cold]
-    pub fn no_room(&self, no_room: NoRoom, began: Moment) -> Error<M::Error> {
+    pub fn no_room(&self, no_room: NoRoom, began: u64) -> Error<M::Error> {
         match no_room {
             NoRoom::Full => Error::JournalFull,
             NoRoom::Busy => Error::SinkBusy,

@@ -1,13 +1,13 @@
 //! The waits of a call: for an object, and for room in the journal.
 
-use crate::call::{Kind, Report};
-use crate::course::Course;
+use crate::call::{Action, Kind, Report};
+use crate::in_progress::InProgress;
 use crate::locked_pool::LockedPool;
 use crate::manager::Manager;
 use crate::panics::drop_quietly;
 use crate::pauses::Pauses;
 use crate::room::{NoRoom, Room};
-use crate::shared::{Held, Shared, WaitLimit};
+use crate::shared::{Held, WaitLimit};
 use crate::sleepers::Alarm;
 use crate::woken::LONGEST_WAKE;
 use std::mem;
@@ -15,19 +15,15 @@ use std::task::Waker;
 use std::thread;
 use std::time::{Duration, Instant};
 
-impl<M: Manager> Course<M> {
+impl<M: Manager> InProgress<'_, M> {
     /// Returns how long the call waits on at most by the system's clock, if that bounds it; nothing if it is to wait no longer.
-    fn time_left(
-        &mut self,
-        pool: &Shared<M>,
-        state: &LockedPool<M::Object>,
-    ) -> Option<Option<Duration>> {
+    fn time_left(&mut self, state: &LockedPool<M::Object>) -> Option<Option<Duration>> {
         let now = Instant::now();
-        let since = *self.since.get_or_insert(now);
-        let end = match self.limit {
+        let since = *self.course.wait().since.get_or_insert(now);
+        let end = match self.course.limit {
             WaitLimit::None => return None,
             WaitLimit::Until(end) => end,
-            WaitLimit::AsSet => pool.end_of_wait(state, since),
+            WaitLimit::AsSet => self.pool.end_of_wait(state, since),
         };
         left_until(now, end)
     }
@@ -46,45 +42,41 @@ impl<M: Manager> Course<M> {
 
     /// Returns the time, in milliseconds, as the core is told it.
     fn time(&self, state: &LockedPool<M::Object>) -> u64 {
-        self.at.millis.max(state.last_time())
+        self.course.at.millis.max(state.last_time())
     }
 
-    /// Sleeps from now on, or sleeps on. Returns false if its time is over, or there is no memory.
-    pub fn fall_asleep(
-        &mut self,
-        pool: &Shared<M>,
-        state: &mut LockedPool<M::Object>,
-        waker: &mut Option<Waker>,
-    ) -> bool {
-        let left = self.time_left(pool, state);
+    /// Sleeps from now on, or sleeps on; a task without a waker. Returns false if its time is over, or there is no memory.
+    pub fn fall_asleep(&mut self, state: &mut LockedPool<M::Object>) -> bool {
+        let left = self.time_left(state);
         let (Some(left), Some(left_by_clock)) = (left, self.time_left_by_clock(state)) else {
             return false;
         };
         // It looks whether a task that was woken before it has been polled.
         let look = state.sleepers.has_tasks().then_some(LONGEST_WAKE);
-        self.longest = [left, left_by_clock, look].into_iter().flatten().min();
-        let ticket = self.call.ticket();
-        let is_task = waker.is_some();
-        let alarm = match waker.take() {
-            Some(waker) => Alarm::Task(waker, self.call.copy()),
-            None => Alarm::Thread(thread::current()),
+        let (ticket, is_task) = (self.call.ticket(), self.course.is_of_task);
+        let alarm = match is_task {
+            true => Alarm::Task(None, self.call.copy()),
+            false => Alarm::Thread(thread::current()),
         };
-        if let Err(alarm) = state.sleepers.sleep(ticket, alarm) {
-            *waker = alarm.into_waker();
-            self.lacks_memory = true;
-            return false;
-        }
-        self.sleeps_as_task = is_task;
-        if !is_task {
-            self.threads = state.threads_before(ticket);
-        }
-        true
+        let sleeps = state.sleepers.sleep(ticket, alarm).is_ok();
+        let threads = if sleeps && !is_task {
+            state.threads_before(ticket)
+        } else {
+            0
+        };
+        let wait = self.course.wait();
+        wait.lacks_memory |= !sleeps;
+        wait.sleeps_as_task = sleeps && is_task;
+        wait.longest = [left, left_by_clock, look].into_iter().flatten().min();
+        wait.threads = threads;
+        sleeps
     }
 
     /// It sleeps no longer. Returns its alarm, if it was not woken.
     pub fn leave_sleepers(&mut self, state: &mut LockedPool<M::Object>) -> Option<Alarm> {
         let (was_there, alarm) = state.sleepers.go_on(self.call.ticket());
-        self.is_given_up = mem::take(&mut self.sleeps_as_task) && !was_there;
+        let wait = self.course.wait();
+        wait.is_given_up = mem::take(&mut wait.sleeps_as_task) && !was_there;
         alarm
     }
 
@@ -96,60 +88,67 @@ impl<M: Manager> Course<M> {
 
     /// Sleeps until this thread is woken or the wait is over, and goes on.
     #[cold]
-    pub fn sleep(&mut self, pool: &Shared<M>) {
-        let ticket = self.call.ticket();
-        let pauses = Pauses::begin_beside(self.threads, self.longest);
-        let state = pool.sleep_until_woken(ticket, pauses, self.longest);
-        let mut state = pool.pass_wakes_on(state);
-        self.at = pool.now_under_lock(&state);
+    pub fn sleep(&mut self) {
+        let (ticket, wait) = (self.call.ticket(), self.course.wait());
+        let longest = wait.longest;
+        let pauses = Pauses::begin_beside(wait.threads, longest);
+        let mut state = self.pool.sleep_until_woken(ticket, pauses, longest);
+        self.course.at = self.pool.now_under_lock(&state);
         if !state.sleepers.has(ticket) || self.is_over(&state) {
-            self.advance_in(pool, state, Report::Woken, &mut None);
-        } else if !self.fall_asleep(pool, &mut state, &mut None) {
-            self.advance_in(pool, state, Report::GivenUp, &mut None);
+            self.advance_in(state, Report::Woken);
+        } else if !self.fall_asleep(&mut state) {
+            self.advance_in(state, Report::GivenUp);
         }
     }
 
-    /// A task that sleeps was polled: it goes on if it was woken or its wait is over, and sleeps on with this waker otherwise.
-    pub fn look(&mut self, pool: &Shared<M>, waker: &mut Option<Waker>) {
-        self.at = pool.now();
-        let mut state = pool.pass_wakes_on(pool.lock());
+    /// Goes on with a call of a task that sleeps or waits for room, if it was woken or its wait is over. Otherwise the pool has its waker then.
+    pub fn look(&mut self, waker: &mut Option<Waker>) {
+        match self.action() {
+            Action::Sleep => self.look_for_wake(waker),
+            _ => {
+                let report = self.make_room_for_task(waker);
+                report.into_iter().for_each(|report| self.advance(report));
+            }
+        }
+    }
+
+    /// A task that sleeps is polled, or has fallen asleep in this poll: it goes on if it was woken or its wait is over, and sleeps on with this waker
+    /// otherwise.
+    fn look_for_wake(&mut self, waker: &mut Option<Waker>) {
+        self.course.at = self.pool.now();
+        let mut state = self.pool.lock_after_wakes();
         let ticket = self.call.ticket();
-        if !state.sleepers.has(ticket) || self.is_over(&state) {
-            return self.advance_in(pool, state, Report::Woken, waker);
+        let is_new = state.sleepers.lacks_waker(ticket);
+        if !is_new && (!state.sleepers.has(ticket) || self.is_over(&state)) {
+            return self.advance_in(state, Report::Woken);
         }
-        if self.time_left(pool, &state).is_none() {
-            return self.advance_in(pool, state, Report::GivenUp, waker);
+        if !is_new && self.time_left(&state).is_none() {
+            return self.advance_in(state, Report::GivenUp);
         }
-        let alarm = waker
-            .take()
-            .map(|waker| Alarm::Task(waker, self.call.copy()));
-        let before = alarm.map(|alarm| state.sleepers.sleep(ticket, alarm));
+        let alarm = Alarm::Task(waker.take(), self.call.copy());
+        let before = state.sleepers.sleep(ticket, alarm);
         drop(state);
         drop_quietly(before);
     }
 
-    /// Makes room in a full journal. If another thread writes a segment, a thread waits for that, and a task has its waker taken. Returns the
-    /// report, unless it is a task that waits.
+    /// Makes room in a full journal, and waits for another thread that writes a segment. Returns the report.
     #[cold]
-    pub fn make_room(&mut self, pool: &Shared<M>, waker: &mut Option<Waker>) -> Option<Report> {
-        if waker.is_some() {
-            return self.look_for_room(pool, waker);
-        }
-        let state = pool.lock();
+    pub fn make_room(&mut self) -> Report {
+        let state = self.pool.lock();
         let end = self.end_of_wait(&state, Instant::now());
-        let waits = self.waits_for_room(&state);
-        let made = pool.make_room(state, self.kind, self.first_stored, end);
-        Some(self.note_room(made, waits))
+        let (waits, first) = (self.waits_for_room(&state), self.course.wait().first_stored);
+        let made = self.pool.make_room(state, self.course.kind, first, end);
+        self.note_room(made, waits)
     }
 
     /// Returns whether the call waits for room at all.
     fn waits_for_room(&self, state: &LockedPool<M::Object>) -> bool {
-        !matches!(self.limit, WaitLimit::None) && self.may_wait(state)
+        !matches!(self.course.limit, WaitLimit::None) && self.may_wait(state)
     }
 
     /// Notes why there is no room, if there is none, for a call that waits for it or may not. Returns the report.
     fn note_room(&mut self, made: Result<(), NoRoom>, waits: bool) -> Report {
-        self.no_room = match made {
+        self.course.wait().no_room = match made {
             Ok(()) => return Report::RoomMade,
             Err(NoRoom::Late) if !waits => NoRoom::Busy,
             Err(no_room) => no_room,
@@ -159,13 +158,13 @@ impl<M: Manager> Course<M> {
 
     /// Returns whether it may wait for another thread that writes a segment: a borrow may not if the settings say that none waits for an object.
     fn may_wait(&self, state: &LockedPool<M::Object>) -> bool {
-        self.kind != Kind::Borrow || state.setup.settings.block_when_exhausted
+        self.course.kind != Kind::Borrow || state.setup.settings.block_when_exhausted
     }
 
     /// Returns until when the call waits for another thread that writes a segment: as long as for an object.
     fn end_of_wait(&mut self, state: &LockedPool<M::Object>, now: Instant) -> Option<Instant> {
-        let since = *self.since.get_or_insert(now);
-        let end = match self.limit {
+        let since = *self.course.wait().since.get_or_insert(now);
+        let end = match self.course.limit {
             WaitLimit::None => Some(now),
             _ if !self.may_wait(state) => Some(now),
             WaitLimit::Until(end) => end,
@@ -180,15 +179,16 @@ impl<M: Manager> Course<M> {
         }
     }
 
-    /// Makes room for a task, which does not wait on its thread.
-    fn look_for_room(&mut self, pool: &Shared<M>, waker: &mut Option<Waker>) -> Option<Report> {
-        self.at = pool.now();
-        let mut state = pool.lock();
-        let (first, now) = (self.first_stored, Instant::now());
-        match pool.look_for_room(&mut state, self.kind, first) {
+    /// Makes room for a task, which does not wait on its thread. If another thread writes a segment, the task waits with this waker, and there is no
+    /// report.
+    fn make_room_for_task(&mut self, waker: &mut Option<Waker>) -> Option<Report> {
+        self.course.at = self.pool.now();
+        let mut state = self.pool.lock();
+        let (first, now) = (self.course.wait().first_stored, Instant::now());
+        match self.pool.look_for_room(&mut state, self.course.kind, first) {
             Room::Made => Some(Report::RoomMade),
             Room::Lacks => {
-                let made = pool.write_for_room(state, first);
+                let made = self.pool.write_for_room(state, first);
                 Some(self.note_room(made, true))
             }
             Room::Awaited if left_until(now, self.end_of_wait(&state, now)).is_some() => {
@@ -205,7 +205,7 @@ impl<M: Manager> Course<M> {
     /// Waits until the journal is cut, or the thread that writes is done. Returns a report if there is no memory for that.
     fn await_room(&mut self, mut state: Held<'_, M>, waker: &mut Option<Waker>) -> Option<Report> {
         let before = self.leave_room_wait(&mut state);
-        if self.is_given_up {
+        if self.course.wait().is_given_up {
             return Some(Report::RoomMade); // by which it begins again
         }
         let call = self.call.copy();
@@ -216,12 +216,12 @@ impl<M: Manager> Course<M> {
         drop_quietly(before);
         match kept? {
             Ok(number) => {
-                self.room_wait = Some(number);
+                self.course.wait().room_wait = Some(number);
                 None
             }
             Err(refused) => {
                 *waker = Some(refused);
-                self.lacks_memory = true;
+                self.course.wait().lacks_memory = true;
                 Some(Report::GivenUp)
             }
         }
@@ -229,10 +229,10 @@ impl<M: Manager> Course<M> {
 
     /// A task waits for room no longer. Returns its alarm, if it was not called.
     pub fn leave_room_wait(&mut self, state: &mut LockedPool<M::Object>) -> Option<Alarm> {
-        let number = self.room_wait.take()?;
+        let number = self.course.wait().room_wait.take()?;
         let (was_there, waker) = state.journal.room_wakers.go_on(number);
-        self.is_given_up |= !was_there;
-        Some(Alarm::Task(waker?, self.call.copy()))
+        self.course.wait().is_given_up |= !was_there;
+        Some(Alarm::Task(Some(waker?), self.call.copy()))
     }
 }
 

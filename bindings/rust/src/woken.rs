@@ -25,6 +25,19 @@ impl WokenTasks {
         self.0.try_reserve(count).is_ok()
     }
 
+    /// Returns whether a task was woken at least this long ago, and its call has not gone on.
+    #[inline(always)]
+    pub fn has_older(&self, age: Duration) -> bool {
+        !self.0.is_empty() && self.is_older(age)
+    }
+
+    #[cold]
+    fn is_older(&self, age: Duration) -> bool {
+        self.0
+            .front()
+            .is_some_and(|woken| woken.at.elapsed() >= age)
+    }
+
     /// A task is woken now.
     pub fn push(&mut self, number: u64, call: CallCopy) {
         let at = Instant::now();
@@ -39,8 +52,7 @@ impl WokenTasks {
 
     /// Returns the call of a task that was woken at least this long ago, and has not gone on. It counts as not woken from now on.
     pub fn take_older(&mut self, age: Duration) -> Option<CallCopy> {
-        let is_due = self.0.front()?.at.elapsed() >= age;
-        let oldest = is_due.then(|| self.0.pop_front()).flatten();
+        let oldest = self.is_older(age).then(|| self.0.pop_front()).flatten();
         oldest.map(|woken| woken.call)
     }
 }

@@ -2,14 +2,12 @@
 
 use crate::call::{Action, End, Kind, Report};
 use crate::clock::Aged;
-use crate::course::{Course, Value};
+use crate::course::Value;
 use crate::error::Error;
 use crate::failure::Failure;
+use crate::in_progress::InProgress;
 use crate::manager::Manager;
-use crate::panics::{caught, Panic};
-use crate::shared::{Shared, WaitLimit};
 use std::mem;
-use std::task::Waker;
 
 /// Why the manager's work on an object failed.
 pub(crate) enum Fault<E> {
@@ -46,7 +44,7 @@ impl<E> Fault<E> {
 }
 
 /// What came of a test.
-pub(crate) fn passed<E>(validated: Result<bool, E>) -> Result<Report, Fault<E>> {
+fn passed<E>(validated: Result<bool, E>) -> Result<Report, Fault<E>> {
     match validated {
         Ok(true) => Ok(Report::Succeeded),
         Ok(false) => Err(Fault::Test(None)),
@@ -57,20 +55,11 @@ pub(crate) fn passed<E>(validated: Result<bool, E>) -> Result<Report, Fault<E>> 
 /// What came of the work of a manager on an object.
 pub(crate) type Worked<M> = Result<Report, Fault<<M as Manager>::Error>>;
 
-impl<M: Manager> Shared<M> {
-    /// Reports why an object failed that was idle or lent before, and is destroyed.
-    #[cold]
-    pub fn report_fault(&self, fault: Fault<M::Error>, id: u64) {
-        if let Some(failure) = fault.into_failure(id) {
-            self.report(failure);
-        }
-    }
-}
-
-impl<M: Manager> Course<M> {
+impl<M: Manager> InProgress<'_, M> {
     /// Returns the object that is worked on.
+    #[inline]
     fn object(&mut self) -> &mut M::Object {
-        match &mut self.value {
+        match &mut self.course.value {
             Value::Here(value) => &mut value.object,
             Value::None | Value::Gone => {
                 unreachable!("an object is made before anything is done with it")
@@ -79,55 +68,51 @@ impl<M: Manager> Course<M> {
     }
 
     /// Owns the object that was made, and notes the time if its age matters.
-    fn own(&mut self, pool: &Shared<M>, object: M::Object) -> Report {
-        let made = match pool.policy.max_lifetime {
-            Some(_) => pool.now().millis,
+    fn own(&mut self, object: M::Object) -> Report {
+        let made = match self.pool.policy.max_lifetime {
+            Some(_) => self.pool.now().millis,
             None => 0,
         };
         let lent = 0;
-        self.value = Value::Here(Aged { object, made, lent });
+        self.course.value = Value::Here(Aged { object, made, lent });
         Report::Made
     }
 
     /// Destroys the object, unless it is gone.
-    fn destroy(&mut self, pool: &Shared<M>) {
-        if let Value::Here(value) = mem::replace(&mut self.value, Value::Gone) {
-            pool.destroy(value.object);
+    pub fn destroy(&mut self) {
+        if let Value::Here(value) = mem::replace(&mut self.course.value, Value::Gone) {
+            self.pool.destroy(value.object);
         }
     }
 
-    /// Returns whether an eviction run looks at the ages of objects, and does nothing else with them.
-    fn looks_at_age_only(&self) -> bool {
-        self.kind == Kind::Evict && !self.tests_idle
-    }
-
     /// Returns whether an eviction run finds its object too old. It looks once, since its clock may be set back: one that is too old is not activated.
-    fn is_too_old(&mut self, pool: &Shared<M>) -> bool {
-        let looks_at_age = self.kind == Kind::Evict && pool.policy.max_lifetime.is_some();
-        match &self.value {
-            Value::Here(value) if looks_at_age => *self
+    fn is_too_old(&mut self) -> bool {
+        let (pool, course) = (self.pool, &mut self.course);
+        match &course.value {
+            Value::Here(value) if pool.policy.max_lifetime.is_some() => *course
                 .is_too_old
                 .get_or_insert_with(|| pool.is_too_old(value, pool.now().millis)),
             _ => false,
         }
     }
 
+    /// Does what an eviction run asks for, which may look at ages and do nothing else with its object.
+    #[cold]
+    fn examine(&mut self) -> Worked<M> {
+        let sees_age_only = !self.course.tests_idle;
+        match self.action() {
+            Action::Activate if sees_age_only || self.is_too_old() => Ok(Report::Succeeded),
+            Action::Validate if self.is_too_old() => Err(Fault::TooOld),
+            Action::Validate | Action::Passivate if sees_age_only => Ok(Report::Succeeded),
+            _ => self.work(),
+        }
+    }
+
     /// Does what the call asks of the manager.
-    fn work(&mut self, pool: &Shared<M>) -> Worked<M> {
-        let (manager, id) = (&pool.manager, self.call.number());
-        let done = |()| Report::Succeeded;
-        match self.call.action() {
-            Action::Make => {
-                let object = manager.make(id).map_err(Fault::Make)?;
-                Ok(self.own(pool, object))
-            }
-            Action::Activate if self.looks_at_age_only() || self.is_too_old(pool) => {
-                Ok(Report::Succeeded)
-            }
-            Action::Validate if self.is_too_old(pool) => Err(Fault::TooOld),
-            Action::Validate | Action::Passivate if self.looks_at_age_only() => {
-                Ok(Report::Succeeded)
-            }
+    #[inline(always)]
+    fn work(&mut self) -> Worked<M> {
+        let (manager, done) = (&self.pool.manager, |()| Report::Succeeded);
+        match self.action() {
             Action::Activate => {
                 let activated = manager.activate(self.object());
                 activated.map(done).map_err(Fault::Activate)
@@ -137,21 +122,31 @@ impl<M: Manager> Course<M> {
                 let passivated = manager.passivate(self.object());
                 passivated.map(done).map_err(Fault::Passivate)
             }
+            action => self.course.unexpected(action),
+        }
+    }
+
+    fn make_or_destroy(&mut self) -> Worked<M> {
+        match self.action() {
+            Action::Make => {
+                let made = self.pool.manager.make(self.call.number());
+                Ok(self.own(made.map_err(Fault::Make)?))
+            }
             Action::Destroy => {
-                self.destroy(pool);
+                self.destroy();
                 Ok(Report::Succeeded)
             }
-            action => self.unexpected(action),
+            action => self.course.unexpected(action),
         }
     }
 
     /// Does the same for a borrow whose manager is awaited.
-    pub async fn work_async(&mut self, pool: &Shared<M>) -> Worked<M> {
-        let (manager, id) = (&pool.manager, self.call.number());
-        match self.call.action() {
+    pub async fn work_async(&mut self) -> Worked<M> {
+        let (manager, id) = (&self.pool.manager, self.call.number());
+        match self.action() {
             Action::Make => {
                 let made = manager.make_async(id).await;
-                Ok(self.own(pool, made.map_err(Fault::Make)?))
+                Ok(self.own(made.map_err(Fault::Make)?))
             }
             Action::Activate => {
                 let activated = manager.activate_async(self.object()).await;
@@ -160,78 +155,73 @@ impl<M: Manager> Course<M> {
                     .map_err(Fault::Activate)
             }
             Action::Validate => passed(manager.try_validate_async(self.object()).await),
-            action => self.unexpected(action),
+            action => self.course.unexpected(action),
         }
     }
 
-    /// Goes on after work of the manager. If it failed, the object is destroyed: then the failure is returned if the object was new, and reported
-    /// otherwise.
-    pub fn go_on(
-        &mut self,
-        pool: &Shared<M>,
-        worked: Worked<M>,
-        waker: &mut Option<Waker>,
-    ) -> Result<(), Error<M::Error>> {
-        let fault = match worked {
+    /// Goes on after work of the manager.
+    #[inline(always)]
+    pub fn go_on(&mut self, worked: Worked<M>) -> Result<(), Error<M::Error>> {
+        match worked {
             Ok(report) => {
-                self.advance(pool, report, waker);
-                return Ok(());
+                self.advance(report);
+                Ok(())
             }
-            Err(fault) => fault,
-        };
-        let id = self.call.number();
-        self.advance(pool, Report::Failed, &mut None);
-        if let Action::Destroy = self.call.action() {
-            self.destroy(pool);
-            self.advance(pool, Report::Succeeded, waker);
+            Err(fault) => self.go_on_after(fault),
         }
-        let fault = match self.call.action() {
-            Action::Done(end) => match fault.into_error(end) {
+    }
+
+    /// Goes on after work of the manager that failed: the object is destroyed. Then the failure is returned if the object was new, and reported
+    /// otherwise.
+    #[cold]
+    fn go_on_after(&mut self, fault: Fault<M::Error>) -> Result<(), Error<M::Error>> {
+        let id = self.call.number();
+        self.advance(Report::Failed);
+        if let Action::Destroy = self.action() {
+            self.destroy();
+            self.advance(Report::Succeeded);
+        }
+        let fault = match self.action() {
+            Action::Done => match fault.into_error(self.call.end()) {
                 Ok(error) => return Err(error),
                 Err(fault) => fault,
             },
             _ => fault,
         };
-        pool.report_fault(fault, id);
+        if let Some(failure) = fault.into_failure(id) {
+            self.pool.report(failure);
+        }
         Ok(())
     }
 
-    /// Does the next action of a call that is not to sleep, and goes on.
-    pub fn act(
-        &mut self,
-        pool: &Shared<M>,
-        waker: &mut Option<Waker>,
-    ) -> Result<(), Error<M::Error>> {
-        let report = match self.call.action() {
+    /// Does the next action of a call, and goes on. A thread sleeps, if it is to do so.
+    #[inline(always)]
+    pub fn act(&mut self) -> Result<(), Error<M::Error>> {
+        if !self.call.asks_for_work() {
+            return self.act_otherwise();
+        }
+        let worked = match self.course.kind {
+            Kind::Evict => self.examine(),
+            _ => self.work(),
+        };
+        self.go_on(worked)
+    }
+
+    #[cold]
+    fn act_otherwise(&mut self) -> Result<(), Error<M::Error>> {
+        let report = match self.action() {
+            Action::Sleep => {
+                self.sleep();
+                return Ok(());
+            }
             Action::GoOn => Report::GoOn,
-            Action::MakeRoom => match self.make_room(pool, waker) {
-                Some(report) => report,
-                None => return Ok(()),
-            },
+            Action::MakeRoom => self.make_room(),
             _ => {
-                let worked = self.work(pool);
-                return self.go_on(pool, worked, waker);
+                let worked = self.make_or_destroy();
+                return self.go_on(worked);
             }
         };
-        self.advance(pool, report, waker);
+        self.advance(report);
         Ok(())
-    }
-
-    /// Gives the call up: what it holds is destroyed. If the destruction panics, that is returned.
-    pub fn give_up(&mut self, pool: &Shared<M>) -> Option<Panic> {
-        self.limit = WaitLimit::None;
-        let (mut report, mut panicked) = (Report::GivenUp, None);
-        loop {
-            self.advance(pool, report, &mut None);
-            report = match self.call.action() {
-                Action::Done(_) => return panicked,
-                Action::GoOn => Report::GoOn,
-                Action::Destroy => {
-                    panicked = caught(|| self.destroy(pool)).err();
-                    Report::Succeeded
-                }
-                action => self.unexpected(action),
-            };
-        }
     }
 }

@@ -4,13 +4,12 @@ use crate::failure::Failure;
 use crate::journal::copy_lines;
 use crate::manager::Manager;
 use crate::outlet::Outlet;
-use crate::proved_core::{CallCopy, Core};
+use crate::proved_core::{CallCopy, Core, CoreFault};
 use crate::room_waits::wake_all;
 use crate::segments::SinkFailure;
 use crate::settings::Setup;
 use crate::shared::{Held, Shared};
 use crate::sleepers::Wakes;
-use crate::step::StepFault;
 use crate::stored_journal::{CutSegment, Mode};
 use std::io::{self, Write};
 use std::sync::Arc;
@@ -56,7 +55,7 @@ impl<M: Manager> Shared<M> {
     pub fn wake_for_room(&self, mut state: Held<'_, M>) {
         let wakers = state.journal.room_wakers.take_all();
         drop(state);
-        self.written.notify_all();
+        self.written.ring();
         for (number, call) in wake_all(wakers) {
             self.give_room_wait_up(number, call);
         }
@@ -90,7 +89,7 @@ impl<M: Manager> Shared<M> {
 
     /// Copies and cuts the journal. The segment is kept as unwritten. If there is a change, the pool goes on with those settings. Returns the
     /// position after the last entry of the segment.
-    pub fn cut_off(&self, turn: &mut Turn<'_, M>, change: Option<Setup>) -> Result<u64, StepFault> {
+    pub fn cut_off(&self, turn: &mut Turn<'_, M>, change: Option<Setup>) -> Result<u64, CoreFault> {
         let mut copy = self.copy_of_base()?;
         for _ in 0..ROUNDS {
             copy.entries = self.copy_stored(copy.entries, &mut copy.text)?;
@@ -120,7 +119,7 @@ impl<M: Manager> Shared<M> {
     }
 
     /// Copies the lines of the base, while no other thread may cut the journal.
-    fn copy_of_base(&self) -> Result<JournalCopy, StepFault> {
+    fn copy_of_base(&self) -> Result<JournalCopy, CoreFault> {
         let first = self.lock().first_stored();
         let mut text = Vec::new();
         let is_whole = self.copy_base(first, &mut text)?;
@@ -133,7 +132,7 @@ impl<M: Manager> Shared<M> {
         &self,
         turn: &mut Turn<'_, M>,
         mut state: Held<'_, M>,
-    ) -> Result<u64, StepFault> {
+    ) -> Result<u64, CoreFault> {
         let mut text = Vec::new();
         copy_lines(&mut state.core, Core::base_line, 0, u64::MAX, &mut text)?;
         self.cut_in(turn, state, JournalCopy::of_base(text), None)
@@ -146,7 +145,7 @@ impl<M: Manager> Shared<M> {
         mut state: Held<'_, M>,
         copy: JournalCopy,
         change: Option<Setup>,
-    ) -> Result<u64, StepFault> {
+    ) -> Result<u64, CoreFault> {
         let (position, entries) = (state.first_stored(), state.core.steps());
         let (mut text, counts) = (copy.text, state.core.counts());
         copy_lines(
@@ -169,7 +168,7 @@ impl<M: Manager> Shared<M> {
             Some(setup) => {
                 state.reconfigure(setup)?;
                 turn.unwritten = (entries > 0).then_some(segment);
-                self.leave_after_step(state);
+                self.leave_after_change(state);
                 self.wake_for_room(self.lock());
             }
             None => {

@@ -326,7 +326,7 @@ fn an_object_that_is_too_old_ends_at_its_return<const HOOKS: bool>() {
     maker.calls();
     assert_eq!(Pooled::give_back(held), Returned::Destroyed);
     assert_eq!(maker.calls(), ["destroy 0"]);
-    assert_eq!(ends_of(&pool), ["park 0 testfail = destroy"]);
+    assert_eq!(ends_of(&pool), ["invalidate 0 = destroy"]);
     assert_eq!(pool.get().unwrap().id, 1);
     assert_legal(&pool);
 }
@@ -365,18 +365,25 @@ fn maintenance_looks_at_the_age_of_each_idle_object<const HOOKS: bool>() {
         }
         clock.set(99);
         let done = pool.maintain().unwrap().eviction;
-        assert_eq!((done.examined, done.destroyed), (5, 0), "{tests} tests");
-        // As many are validated as the settings say.
+        // As many are validated as the settings say, which is what one run examines.
         let calls = maker.calls();
         let validated = calls.iter().filter(|call| call.starts_with("validate"));
         let wanted = match tests {
-            0.. => tests.min(5) as usize,
-            _ => 5_usize.div_ceil(tests.unsigned_abs() as usize),
+            0.. => tests.min(5) as u64,
+            _ => 5_u64.div_ceil(tests.unsigned_abs().into()),
         };
-        assert_eq!(validated.count(), wanted, "{tests} tests");
+        assert_eq!(validated.count() as u64, wanted, "{tests} tests");
+        // Further runs follow until all were examined, and the last one may go beyond.
+        let examined = 5..=5_u64.next_multiple_of(wanted.max(1));
+        assert_eq!(
+            (done.examined, done.destroyed),
+            (*examined.end(), 0),
+            "{tests} tests"
+        );
         clock.set(130);
         let done = pool.maintain().unwrap().eviction;
-        assert_eq!((done.examined, done.destroyed), (5, 4), "{tests} tests");
+        assert!(examined.contains(&done.examined), "{tests} tests");
+        assert_eq!(done.destroyed, 4, "{tests} tests");
         assert_eq!(pool.get().unwrap().id, 4);
         assert_legal(&pool);
     }
@@ -668,14 +675,15 @@ fn debug_waits_for_no_lock<const HOOKS: bool>() {
     let (pool, ..) = pool_with::<HOOKS>(|builder| builder.clock(clock).max_total(1));
     let held = pool.get().unwrap();
     shown.lock().unwrap().0 = Some(pool.clone());
-    let short = Duration::from_millis(5);
-    assert!(matches!(pool.get_timeout(short), Err(Error::TimedOut(_))));
+    // A borrow whose time is over before it sleeps reads no clock under the lock.
+    wait_until(|| {
+        let end = pool.get_timeout(Duration::from_millis(5));
+        assert!(matches!(end, Err(Error::TimedOut(_))));
+        let shown = shown.lock().unwrap();
+        shown.1.iter().any(|text| text.contains("<locked>"))
+    });
     drop(held);
     let (handle, texts) = std::mem::take(&mut *shown.lock().unwrap());
-    assert!(
-        texts.iter().any(|text| text.contains("<locked>")),
-        "{texts:?}"
-    );
     assert!(
         texts.iter().any(|text| text.contains("lent: 1")),
         "{texts:?}"

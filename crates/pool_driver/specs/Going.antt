@@ -5,7 +5,7 @@ use Rattle.pool_calls.specs.Operations.{HasCome, IsRight, is_over, lacks_room, s
 use Rattle.pool_calls.specs.Turns.{Turn, asks_room, is_done}
 use Rattle.pool_calls.specs.declared.action.Action.{Action}
 use Rattle.pool_calls.specs.declared.operation.Operation.{Operation}
-use Rattle.pool_driver.specs.Driving.{Accepts, DrivenModel, GoesFrom, IsNext, IsTold, LacksRoomOnlyEmpty, Moves, TakesFirst, fits_report, is_low_in, told, until_of}
+use Rattle.pool_driver.specs.Driving.{Accepts, DrivenModel, GoesFrom, IsNext, IsTold, LacksRoomOnlyEmpty, Moves, TakesFirst, fits_report, told, until_of}
 use Rattle.pool_driver.specs.Overtaking.{CountsOvertakes, Hears}
 use Rattle.pool_driver.specs.declared.call.Call.{Call}
 use Rattle.pool_driver.specs.declared.effects.Effects.{Effects}
@@ -53,4 +53,3 @@ pub record WentOn (report : Report) (caller at : ℕ) (old new : DrivenModel) (b
   pub token : e.token ≡ after.token
   pub ticket : e.ticket ≡ after.ticket
   pub until : e.until ≡ until_of new.core.settings after
-  pub low : e.is_low ≡ is_low_in new.core

@@ -14,6 +14,4 @@ pub struct Effects {
     pub ticket: Option<u64>,
     /// The time at which a wait is over by the settings, in milliseconds, if the call is a borrow and there is a limit.
     pub until: Option<u64>,
-    /// Whether the room of the journal is less than a quarter of its limit, so that it is to be cut soon.
-    pub is_low: bool,
 }

@@ -154,7 +154,7 @@ impl DrivenPool {
 
     // Has a returned object checked, if that is the expected answer. Returns whether it did; otherwise nothing
     // changes.
-    #[inline(never)]
+    #[inline]
     fn check(&mut self, caller: u32, at: u64, id: u64) -> bool
         ensures answered { result ≡ true → Answered caller at (inputs.GiveBack id) None
             self.old.core self.new.core answers.Check None }
@@ -173,7 +173,7 @@ impl DrivenPool {
 
     // Lends an object that is ready and good, if that is the expected answer. Returns whether it did; otherwise nothing
     // changes.
-    #[inline(never)]
+    #[inline]
     fn lend(&mut self, caller: u32, at: u64, id: u64) -> bool
         ensures answered { result ≡ true → Answered caller at (inputs.Ready id outcomes.Good) None
             self.old.core self.new.core answers.Lent None }
@@ -193,7 +193,7 @@ impl DrivenPool {
 
     // Makes a returned object idle that is good, if that is the expected answer. Returns whether it did; otherwise nothing
     // changes.
-    #[inline(never)]
+    #[inline]
     fn park(&mut self, caller: u32, at: u64, id: u64, token: u64) -> bool
         ensures answered { result ≡ true → Answered caller at (inputs.Park id outcomes.Good) (Some token)
             self.old.core self.new.core answers.Parked None }
@@ -214,20 +214,38 @@ impl DrivenPool {
         }
     }
 
-    // Takes a step by which a borrow or a return goes on in its usual course, if this is the expected answer. Returns whether it
-    // did; otherwise nothing changes.
+    // Takes a step by which a borrow or a return goes on in its usual course, if this is the expected answer: the one that ends a
+    // borrow, the one that ends a return, or the check of a returned object. Returns whether it did; otherwise nothing changes.
+    // Each kind of step has a copy of its own.
     #[inline(always)]
-    fn step_usual(&mut self, caller: u32, at: u64, input: Input, answer: Answer, token: u64) -> bool
+    fn step_usual<const IS_END: bool, const IS_BORROW: bool>(
+        &mut self,
+        caller: u32,
+        at: u64,
+        input: Input,
+        answer: Answer,
+        token: u64,
+    ) -> bool
         ensures answered { result ≡ true → Answered caller at input (handed input token)
             self.old.core self.new.core answer None }
         ensures rest { self.new ≡ record self.old { core = self.new.core } }
         ensures unchanged { result ≡ false → self.new ≡ self.old }
     {
+        if !IS_END {
+            return match (input, answer) {
+                (Input::GiveBack { id }, Answer::Check) => self.check(caller, at, id),
+                _ => false,
+            };
+        }
+        if IS_BORROW {
+            return match (input, answer) {
+                (Input::Ready { id, outcome }, Answer::Lent) => {
+                    matches!(outcome, Outcome::Good) && self.lend(caller, at, id)
+                }
+                _ => false,
+            };
+        }
         match (input, answer) {
-            (Input::GiveBack { id }, Answer::Check) => self.check(caller, at, id),
-            (Input::Ready { id, outcome }, Answer::Lent) => {
-                matches!(outcome, Outcome::Good) && self.lend(caller, at, id)
-            }
             (Input::Park { id, outcome }, Answer::Parked) => {
                 matches!(outcome, Outcome::Good) && self.park(caller, at, id, token)
             }
@@ -238,7 +256,7 @@ impl DrivenPool {
     /// Takes a step that is not a borrow's first, if the expected answer is this one, which its call has in its usual course.
     /// Returns whether it did; otherwise nothing changes.
     #[inline(always)]
-    pub(crate) fn take_usual(
+    pub(crate) fn take_usual<const IS_END: bool, const IS_BORROW: bool>(
         &mut self,
         call: &mut Call,
         caller: u32,
@@ -255,7 +273,7 @@ impl DrivenPool {
         let Some(after) = call.operation.after_usual(answer) else {
             return false;
         };
-        if !self.step_usual(caller, at, input, answer, call.token) {
+        if !self.step_usual::<IS_END, IS_BORROW>(caller, at, input, answer, call.token) {
             return false;
         }
         call.operation = after;

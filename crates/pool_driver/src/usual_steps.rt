@@ -109,7 +109,13 @@ impl DrivenPool {
     // Takes the step that a call asks for, which is not a borrow's first, if the expected answer is this one, which the call has
     // in its usual course.
     #[inline(always)]
-    fn step_by(&mut self, call: &mut Call, caller: u32, at: u64, answer: Answer) -> Option<Effects>
+    fn step_by<const IS_END: bool, const IS_BORROW: bool>(
+        &mut self,
+        call: &mut Call,
+        caller: u32,
+        at: u64,
+        answer: Answer,
+    ) -> Option<Effects>
         ensures went { (report : Report) (before : Call)
             → Heard report at self.old self.old before call.old
             → IfSome result (WentOn report caller at self.old self.new before call.new) }
@@ -122,7 +128,7 @@ impl DrivenPool {
         if is_borrow(input) {
             return None;
         }
-        if !self.take_usual(call, caller, at, input, answer) {
+        if !self.take_usual::<IS_END, IS_BORROW>(call, caller, at, input, answer) {
             return None;
         }
         Some(self.stepped(call, at))
@@ -138,15 +144,15 @@ impl DrivenPool {
         ensures unchanged { IfNone result ((self.new ≡ self.old) × (call.new ≡ call.old)) }
     {
         let at = at.max(self.last);
-        self.step_by(call, caller, at, Answer::Check)
+        self.step_by::<false, false>(call, caller, at, Answer::Check)
     }
 
     /// Goes on with a call whose factory has done its work, as `advance` with `Succeeded`, if its next step has this answer,
-    /// `Lent` or `Parked`, by which it is over.
+    /// `Lent` of a borrow or `Parked` of a return, by which it is over.
     ///
     /// Returns `None`, and changes nothing, if that is another answer, or the report does not fit.
     #[inline(always)]
-    pub fn end_by(
+    pub fn end_by<const IS_BORROW: bool>(
         &mut self,
         call: &mut Call,
         caller: u32,
@@ -162,7 +168,7 @@ impl DrivenPool {
         if !accept_success(&mut told) {
             return None;
         }
-        let effects = self.step_by(&mut told, caller, at, answer)?;
+        let effects = self.step_by::<true, IS_BORROW>(&mut told, caller, at, answer)?;
         *call = told;
         Some(effects)
     }

@@ -14,11 +14,7 @@ pub(crate) fn write_progress<W: Write>(out: &mut W, progress: Option<Progress>) 
         return out.write_all(b"misfit\n");
     };
     write_action(out, &progress.effects)?;
-    write_tally(out, progress.operation)?;
-    if progress.effects.is_low {
-        out.write_all(b"low\n")?;
-    }
-    Ok(())
+    write_tally(out, progress.operation)
 }
 
 /// Writes what a call over several objects has come to.

@@ -1,4 +1,5 @@
 mod Held
 pub mod Openings
 mod Pairs
+mod Quiet
 mod Sent

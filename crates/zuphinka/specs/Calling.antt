@@ -1,5 +1,5 @@
 -- The calls in progress from C: what begins them, what follows a report, and what the host is told.
-use Rattle.std.specs.Prelude.{◌≡◌, ℕ, ◌+◌, ◌-◌, ◌^◌, if◌then◌else◌, max, min, not, Bool, true, false, Option, Some, None, is_some, unwrap_or, IsSomeAnd, length}
+use Rattle.std.specs.Prelude.{◌≡◌, ℕ, ◌+◌, ◌-◌, ◌^◌, ◌==◌, ◌&&◌, ◌||◌, if◌then◌else◌, max, min, not, Bool, true, false, Option, Some, None, is_some, unwrap_or, IsSomeAnd, length}
 use Rattle.pool_journal.specs.Base.{closed_from}
 use Rattle.pool_journal.specs.declared.answer.Answer.{Answer}
 use Rattle.pool_journal.specs.declared.answer.Answer.TheVariants as answers
@@ -29,7 +29,7 @@ use Rattle.zuphinka.specs.declared.starting.CallStart.{CallStart}
 use Rattle.zuphinka.specs.declared.starting.Kind.{Kind}
 use Rattle.zuphinka.specs.declared.starting.Kind.TheVariants as kinds
 use Rattle.zuphinka.specs.declared.status.Status.{Status}
-use Rattle.zuphinka.specs.declared.status.Status.TheVariants.{Done, NotOpen, BadRequest, NoCall, Misfit, NoWake, NotAtOnce}
+use Rattle.zuphinka.specs.declared.status.Status.TheVariants.{Done, NotOpen, BadRequest, NoCall, Misfit, NoWake, NotAtOnce, AtOnce}
 
 -- ---- what the host is told
 -- C reads these effects of a call, and the ticket to wake
@@ -46,7 +46,6 @@ pub record IsReadAs (e : Effects) (op : Operation) (woken : Option ℕ) (out : C
   pub has_ticket : out.has_ticket ≡ is_some e.ticket
   pub has_until : out.has_until ≡ is_some e.until
   pub has_wake : out.has_wake ≡ is_some woken
-  pub is_low : out.is_low ≡ e.is_low
 
 -- the next ticket to wake is signalled, or none is to be
 abbrev pub Wakes : DrivenModel → DrivenModel → Option ℕ → Type 0
@@ -62,6 +61,19 @@ pub record GoesOn (caller at : ℕ) (report : Report) (old new : DrivenModel) (b
   pub went : WentOn report caller (max at old.last) old between before after effects
   pub wakes : Wakes between new wake
   pub read : IsReadAs effects after.operation wake out
+
+-- its object is lent or idle, and no call is to be woken
+abbrev pub is_quiet : CallEffects → Bool
+is_quiet e = (e.end == 1 || e.end == 10) && not e.has_wake
+
+-- of a call that is over so C reads the object alone
+abbrev pub read_of : Bool → CallEffects → CallEffects → CallEffects
+read_of true told before = record before { number = told.number; object = told.object }
+read_of false told before = told
+
+abbrev pub status_told : Bool → Status
+status_told true = AtOnce
+status_told false = Done
 
 -- ---- begin
 -- it begins with this step, and has this token
@@ -103,6 +115,8 @@ pub record Began (start : CallStart) (old new : OpenModel) (host : HostCall) (ou
 -- the result of beginning a call of an open pool
 abbrev pub BeginsTo : CallStart → OpenModel → OpenModel → HostCall → HostCall → CallEffects → CallEffects → Status → Type 0
 BeginsTo start old new host host' out out' Done = IsSomeAnd (kind_at start.kind) (Began start old new host' out')
+BeginsTo start old new host host' out out' AtOnce =
+    (told : CallEffects) × IsSomeAnd (kind_at start.kind) (Began start old new host' told) × (is_quiet told ≡ true) × (out' ≡ read_of true told out)
 BeginsTo start old new host host' out out' BadRequest = (kind_at start.kind ≡ None) × (new ≡ old) × (host' ≡ host) × (out' ≡ out)
 BeginsTo start old new host host' out out' _ = ⊥
 
@@ -119,6 +133,9 @@ pub record Advanced (event : CallEvent) (old new : OpenModel) (host : HostCall) 
 -- the result of a report to an open pool
 abbrev pub AdvancesTo : CallEvent → OpenModel → OpenModel → HostCall → HostCall → CallEffects → CallEffects → Status → Type 0
 AdvancesTo event old new host host' out out' Done = (c : Call) × Holds old.number host c × Advanced event old new host' out' c
+AdvancesTo event old new host host' out out' AtOnce =
+    (c : Call) × Holds old.number host c
+    × (told : CallEffects) × Advanced event old new host' told c × (is_quiet told ≡ true) × (out' ≡ read_of true told out)
 AdvancesTo event old new host host' out out' NoCall = HoldsNone old.number host × (new ≡ old) × (host' ≡ host) × (out' ≡ out)
 AdvancesTo event old new host host' out out' BadRequest =
     (c : Call) × Holds old.number host c × (report_of event ≡ None) × (new ≡ old) × (host' ≡ host) × (out' ≡ out)

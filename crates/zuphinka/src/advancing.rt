@@ -32,44 +32,38 @@ fn running_after(running: u64, is_running: bool) -> u64
 }
 
 impl OpenPool {
-    /// Tells the host of a call that went on what it does next, and keeps the call. Returns whether it is in progress.
+    /// Returns what the host of a call that went on does next, and whether the call is in progress. The host keeps it.
     #[inline(always)]
-    pub(crate) fn tell(
+    pub(crate) fn told(
         &mut self,
         call: &Call,
         made: &Effects,
         host: &mut HostCall,
-        effects: &mut CallEffects,
-    ) -> bool
+    ) -> (CallEffects, bool)
         ensures goes { (report : Report) (caller at : ℕ) (old : DrivenModel) (before : Call)
             → WentOn report caller (max at old.last) old self.old.driven before call.now made.now
-            → GoesOn caller at report old self.new.driven before call.now effects.new }
+            → GoesOn caller at report old self.new.driven before call.now result.0 }
         ensures keeps { Keeps (is_over call.now.operation) self.old.number host.new call.now }
-        ensures running { result ≡ not (is_over call.now.operation) }
+        ensures running { result.1 ≡ not (is_over call.now.operation) }
         ensures rest { self.new ≡ record self.old { driven = self.new.driven } }
     {
         let wake = self.driven.next_wake();
-        *effects = CallEffects::of(made, &call.operation(), wake);
-        host.keep(self.number, call)
+        let told = CallEffects::of(made, &call.operation(), wake);
+        (told, host.keep(self.number, call))
     }
 
-    // Tells the host of a call in progress that went on what it does next, and keeps the call.
+    // Returns what the host of a call in progress that went on does next. The host keeps the call.
     #[inline(always)]
-    fn tell_advanced(
-        &mut self,
-        call: &Call,
-        made: &Effects,
-        host: &mut HostCall,
-        effects: &mut CallEffects,
-    )
+    fn advanced(&mut self, call: &Call, made: &Effects, host: &mut HostCall) -> CallEffects
         ensures { (event : CallEvent) (report : Report) (old : OpenModel) (before : Call)
             → report_of event ≡ Some report
             → WentOn report event.caller (max event.at old.driven.last) old.driven
             self.old.driven before call.now made.now → self.old ≡ record old { driven = self.old.driven }
-            → Advanced event old self.new host.new effects.new before }
+            → Advanced event old self.new host.new result before }
     {
-        let is_running = self.tell(call, made, host, effects);
+        let (told, is_running) = self.told(call, made, host);
         self.running = running_after(self.running, is_running);
+        told
     }
 
     // Goes on with any call after a report.
@@ -95,7 +89,7 @@ impl OpenPool {
             .advance(&mut call, event.caller, event.at, report)
         {
             Some(made) => {
-                self.tell_advanced(&call, &made, host, effects);
+                *effects = self.advanced(&call, &made, host);
                 Status::Done
             }
             None => Status::Misfit,
@@ -114,7 +108,7 @@ impl OpenPool {
             result }
     {
         let Some(mut call) = host.find(self.number) else {
-            return Status::NoCall;
+            return self.advance_any(host, event, effects);
         };
         let Some(report) = event.report() else {
             return self.advance_any(host, event, effects);
@@ -129,12 +123,9 @@ impl OpenPool {
         };
         match self
             .driven
-            .end_by(&mut call, event.caller, event.at, answer)
+            .end_by::<IS_BORROW>(&mut call, event.caller, event.at, answer)
         {
-            Some(made) => {
-                self.tell_advanced(&call, &made, host, effects);
-                Status::Done
-            }
+            Some(made) => self.advanced(&call, &made, host).tell(effects),
             None => self.advance_any(host, event, effects),
         }
     }

@@ -33,34 +33,29 @@ impl OpenPool {
         let (caller, at) = (start.caller, start.at);
         match self.driven.advance(&mut call, caller, at, Report::GoOn) {
             Some(made) => {
-                self.tell_begun(&call, &made, host, effects);
+                *effects = self.begun(&call, &made, host);
                 Status::Done
             }
             None => unreachable!(),
         }
     }
 
-    // Tells the host what it does next of a call that has begun, and keeps the call.
+    // Returns what the host of a call that has begun does next. The host keeps the call.
     #[inline(always)]
-    fn tell_begun(
-        &mut self,
-        call: &Call,
-        made: &Effects,
-        host: &mut HostCall,
-        effects: &mut CallEffects,
-    )
+    fn begun(&mut self, call: &Call, made: &Effects, host: &mut HostCall) -> CallEffects
         ensures { (start : CallStart) (old : OpenModel) (first : Call) (kind : Kind)
             → Begins old.driven.plan first → IsKind start old.driven.last kind first
             → WentOn reports.GoOn start.caller (max start.at old.driven.last) old.driven
             self.old.driven first call.now made.now → self.old ≡ record old { driven = self.old.driven }
-            → Began start old self.new host.new effects.new kind }
+            → Began start old self.new host.new result kind }
     {
-        let is_running = self.tell(call, made, host, effects);
+        let (told, is_running) = self.told(call, made, host);
         self.running = running_with(self.running, is_running);
+        told
     }
 
     // Begins a borrow whose host works on an idle object, as a rule.
-    #[inline(never)]
+    #[inline(always)]
     fn begin_taken(
         &mut self,
         start: &CallStart,
@@ -74,7 +69,7 @@ impl OpenPool {
         let mut call = start.call(&self.driven, Kind::Borrow);
         match self.driven.begin_taken(&mut call, start.caller, start.at) {
             Some(made) => {
-                self.tell_begun(&call, &made, host, effects);
+                *effects = self.begun(&call, &made, host);
                 Status::Done
             }
             None => self.begin_as(start, Kind::Borrow, host, effects),
@@ -82,7 +77,7 @@ impl OpenPool {
     }
 
     // Begins a return whose host works on its object, as a rule.
-    #[inline(never)]
+    #[inline(always)]
     fn begin_checked(
         &mut self,
         start: &CallStart,
@@ -96,7 +91,7 @@ impl OpenPool {
         let mut call = start.call(&self.driven, Kind::Return);
         match self.driven.begin_checked(&mut call, start.caller, start.at) {
             Some(made) => {
-                self.tell_begun(&call, &made, host, effects);
+                *effects = self.begun(&call, &made, host);
                 Status::Done
             }
             None => self.begin_as(start, Kind::Return, host, effects),
@@ -117,10 +112,7 @@ impl OpenPool {
     {
         let mut call = start.call(&self.driven, Kind::Borrow);
         match self.driven.begin_lent(&mut call, start.caller, start.at) {
-            Some(made) => {
-                self.tell_begun(&call, &made, host, effects);
-                Status::Done
-            }
+            Some(made) => self.begun(&call, &made, host).tell(effects),
             None => self.begin_as(start, Kind::Borrow, host, effects),
         }
     }
@@ -139,10 +131,7 @@ impl OpenPool {
     {
         let mut call = start.call(&self.driven, Kind::Return);
         match self.driven.begin_parked(&mut call, start.caller, start.at) {
-            Some(made) => {
-                self.tell_begun(&call, &made, host, effects);
-                Status::Done
-            }
+            Some(made) => self.begun(&call, &made, host).tell(effects),
             None => self.begin_as(start, Kind::Return, host, effects),
         }
     }

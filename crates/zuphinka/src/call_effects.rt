@@ -1,8 +1,9 @@
 //! What the host of a call does next, as the codes and numbers that C reads.
 ghost use Rattle.std.specs.Prelude.{◌≡◌};
 ghost use Rattle.zuphinka.specs.CallCodes.{action_code, action_end, action_number, end_code};
-ghost use Rattle.zuphinka.specs.Calling.{IsReadAs};
+ghost use Rattle.zuphinka.specs.Calling.{IsReadAs, is_quiet, read_of, status_told};
 
+use crate::status::Status;
 use pool_calls::{Action, End, Operation, StepFailure};
 use pool_driver::Effects;
 
@@ -35,8 +36,6 @@ pub struct CallEffects {
     pub has_until: bool,
     /// Whether a call is to be woken.
     pub has_wake: bool,
-    /// Whether the room of the journal is less than a quarter of its limit.
-    pub is_low: bool,
 }
 
 #[inline(always)]
@@ -110,6 +109,30 @@ fn number_of_action(action: Action) -> u64
 }
 
 impl CallEffects {
+    /// Returns whether the object of the call is lent or idle, and no call is to be woken.
+    #[inline(always)]
+    fn is_quiet(&self) -> bool
+        ensures { result ≡ is_quiet self.now }
+    {
+        (self.end == 1 || self.end == 10) && !self.has_wake
+    }
+
+    /// Tells the host, and returns the status. Of a call that is over at once it reads the object alone.
+    #[inline(always)]
+    pub(crate) fn tell(self, read: &mut CallEffects) -> Status
+        ensures status { result ≡ status_told (is_quiet self) }
+        ensures read { read.new ≡ read_of (is_quiet self) self read.old }
+    {
+        if self.is_quiet() {
+            read.number = self.number;
+            read.object = self.object;
+            Status::AtOnce
+        } else {
+            *read = self;
+            Status::Done
+        }
+    }
+
     #[inline(always)]
     pub(crate) fn of(effects: &Effects, operation: &Operation, wake: Option<u64>) -> CallEffects
         ensures { IsReadAs effects.now operation.now wake result }
@@ -131,7 +154,6 @@ impl CallEffects {
             has_ticket,
             has_until,
             has_wake,
-            is_low: effects.is_low,
         }
     }
 }

@@ -41,6 +41,8 @@ pub(crate) enum Status {
     NoWake,
     /// The call is not over at once: it is to be begun.
     NotAtOnce,
+    /// The call is over: its object is lent, or idle, and no call is to be woken.
+    AtOnce,
 }
 
 impl Status {
@@ -65,6 +67,7 @@ impl Status {
             Status::Misfit => 14,
             Status::NoWake => 15,
             Status::NotAtOnce => 16,
+            Status::AtOnce => 17,
         }
     }
 }

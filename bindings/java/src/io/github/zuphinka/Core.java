@@ -142,8 +142,8 @@ final class Core {
     /** Begins a call, which is kept in the longs. */
     static native long begin(long core, long[] progress, long at, long id, long token, int caller, int kind);
 
-    /** Goes on with a call, which is kept in the longs, after a report. */
-    static native long advance(long core, long[] progress, long at, long token, int caller, int report);
+    /** Goes on with a call of a kind, which is kept in the longs, after a report. */
+    static native long advance(long core, long[] progress, long at, long token, int caller, int kind, int report);
 
     /** Lends an idle object at once, and returns its token; or a negative status, and the borrow is to be begun. */
     static native long lend(long core, long at, int caller);

@@ -66,7 +66,7 @@ final class JournalRoom {
         long[] progress = new long[Core.WORDS];
         long begun = Core.begin(core, progress, 0, 0, 0, 0, Core.KIND_BORROW);
         boolean makes = hasDone(begun) && Core.action(begun) == Core.ACTION_MAKE;
-        return makes && hasDone(Core.advance(core, progress, 0, 0, 0, Core.REPORT_MADE));
+        return makes && hasDone(Core.advance(core, progress, 0, 0, 0, Core.KIND_BORROW, Core.REPORT_MADE));
     }
 
     /** Returns whether a reply is none of a lack of memory. */

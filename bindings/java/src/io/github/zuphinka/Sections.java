@@ -480,7 +480,7 @@ final class Sections<T> {
 
     private long advanced(Call<T> call, int report, long now) {
         long token = call.member == null ? 0 : call.member.slot;
-        return Core.advance(core, call.progress, timeOf(now), token, call.caller, report);
+        return Core.advance(core, call.progress, timeOf(now), token, call.caller, call.kind, report);
     }
 
     /** Notes what a report changes. */

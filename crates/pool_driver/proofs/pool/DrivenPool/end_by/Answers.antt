@@ -6,7 +6,7 @@ use Rattle.pool_driver.proofs.Going.{heard_success}
 use Rattle.pool_driver.proofs.pool.DrivenPool.end_by.Goals as goal
 
 pub returns-clause-went : goal.returns-clause-went
-returns-clause-went c =
+returns-clause-went g c =
     let old = c.args.self.now in
     let call = c.args.call.now in
     let told = c.accept_success.new.call in

@@ -7,7 +7,7 @@ use Rattle.pool_driver.proofs.Running.{takes_uncut}
 use Rattle.pool_driver.proofs.pool.DrivenPool.take_usual.Goals as goal
 
 pub returns-clause-stepped : goal.returns-clause-stepped
-returns-clause-stepped c is =
+returns-clause-stepped g c is =
     let here = c.args.self.now in
     let new = c.step_usual.new.self in
     let call = c.args.call.now in

@@ -45,5 +45,4 @@ returns c report caller old heard before mid hears ran =
       token = search rules;
       ticket = search rules;
       until = search rules;
-      low = search rules;
     }

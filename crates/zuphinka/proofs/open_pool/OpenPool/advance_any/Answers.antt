@@ -15,9 +15,9 @@ returns-in_default-report c =
 pub returns-in-Some-advance : goal.returns-in-Some-advance
 returns-in-Some-advance c =
     let old : OpenModel = record { driven = c.self.inside.driven; running = c.self.inside.running; number = c.self.inside.number; hooks = c.self.inside.hooks } in
-    let told = c.tell_advanced.new in
-    let P : OpenModel → Type 0 = λ p. (x : Call) × Holds p.number c.args.host.now x × Advanced c.args.event.now p told.self told.host told.effects x in
-    subst P c.self.view_is (c.in-Some.call, c.in-Some.ensures.holds, c.tell_advanced.ensures c.args.event.now c.in-Some-report.report old c.in-Some.call (sym c.in-Some-report.ensures) c.in-Some-advance.ensures.went refl)
+    let told = c.advanced.new in
+    let P : OpenModel → Type 0 = λ p. (x : Call) × Holds p.number c.args.host.now x × Advanced c.args.event.now p told.self told.host c.advanced.result x in
+    subst P c.self.view_is (c.in-Some.call, c.in-Some.ensures.holds, c.advanced.ensures c.args.event.now c.in-Some-report.report old c.in-Some.call (sym c.in-Some-report.ensures) c.in-Some-advance.ensures.went refl)
 
 pub returns-in-None : goal.returns-in-None
 returns-in-None c =

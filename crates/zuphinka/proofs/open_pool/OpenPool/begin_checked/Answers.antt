@@ -10,10 +10,10 @@ pub returns-in-Some : goal.returns-in-Some
 returns-in-Some c =
     let inside = c.self.inside in
     let old : OpenModel = record { driven = inside.driven; running = inside.running; number = inside.number; hooks = inside.hooks } in
-    let last = c.tell_begun.new in
-    let begun = c.tell_begun.ensures c.args.start.now old c.call-call.result kinds.Return c.call-call.ensures.begins c.call-call.ensures.is c.in-Some.ensures.went refl in
-    let P : Option Kind → Type 0 = λ k. IsSomeAnd k (Began c.args.start.now c.args.self.now last.self last.host last.effects) in
-    let Q : OpenModel → Type 0 = λ p. Began c.args.start.now p last.self last.host last.effects kinds.Return in
+    let last = c.begun.new in
+    let begun = c.begun.ensures c.args.start.now old c.call-call.result kinds.Return c.call-call.ensures.begins c.call-call.ensures.is c.in-Some.ensures.went refl in
+    let P : Option Kind → Type 0 = λ k. IsSomeAnd k (Began c.args.start.now c.args.self.now last.self last.host c.begun.result) in
+    let Q : OpenModel → Type 0 = λ p. Began c.args.start.now p last.self last.host c.begun.result kinds.Return in
     subst P (sym c.requires) (subst Q c.self.view_is begun)
 
 pub returns-in-None : goal.returns-in-None

@@ -4,7 +4,7 @@ use Rattle.pool_calls.specs.declared.operation.Operation.{Operation}
 use Rattle.pool_driver.specs.Driving.{DrivenModel, available_in}
 use Rattle.pool_driver.specs.Going.{WentOn}
 use Rattle.zuphinka.specs.Calling.{IsReadAs, Wakes}
-use Rattle.zuphinka.proofs.open_pool.OpenPool.tell.Goals as goal
+use Rattle.zuphinka.proofs.open_pool.OpenPool.told.Goals as goal
 
 wakes_by : (wake : Option ℕ) (old new : DrivenModel) → new ≡ record old { queue = record old.queue { signalled = new.queue.signalled } } → IfSome wake (Signals (available_in old.core) old.queue new.queue) → IfNone wake (IsSettled (available_in old.core) new.queue) → Wakes old new wake
 wakes_by None old new rest signals settled = (rest, settled)
@@ -18,12 +18,12 @@ returns-clause-goes c report caller at old before went =
     let wakes = c.next_wake-wake.ensures in
     let wake = c.next_wake-wake.result in
     let D : DrivenModel → Type 0 = λ d. WentOn report caller (max at old.last) old d before after made in
-    let R : Operation → Type 0 = λ o. IsReadAs made o wake c.of.result in
+    let R : Operation → Type 0 = λ o. IsReadAs made o wake c.of-told.result in
     record {
       effects = made;
       between = between;
       wake = wake;
       went = subst D (sym (ap (λ p. p.driven) c.self.view_is)) went;
       wakes = wakes_by wake between c.next_wake-wake.new.self wakes.rest wakes.signals wakes.settled;
-      read = subst R c.operation.ensures c.of.ensures;
+      read = subst R c.operation.ensures c.of-told.ensures;
     }
