@@ -67,7 +67,7 @@ def compile_native(library, heap, to, *more):
     include = jdk() / "include"
     flags = ["-std=c11", "-O2", "-Wall", "-Wextra", "-Werror", "-fPIC", "-shared", "-I", include, "-I", include / "linux", "-I", INCLUDE]
     link = [f"-Wl,--version-script={JAVA}/native/exports.map", "-Wl,-z,defs"]
-    run(*command("CC", "cc"), *flags, JAVA / "native/zuphinka_jni.c", *more, library, heap, *link, "-o", to)
+    run(*command("CC", "cc"), *flags, *sorted((JAVA / "native").glob("*.c")), *more, library, heap, *link, "-o", to)
 
 
 def compile_classes(sources, to, *jars):

@@ -17,7 +17,6 @@ import java.util.concurrent.TimeUnit;
 import java.util.concurrent.atomic.AtomicBoolean;
 import java.util.concurrent.atomic.AtomicInteger;
 import java.util.concurrent.locks.LockSupport;
-import java.util.concurrent.locks.ReentrantLock;
 import org.apache.commons.pool2.PooledObject;
 import org.apache.commons.pool2.impl.AbandonedConfig;
 import org.apache.commons.pool2.impl.DefaultPooledObject;
@@ -561,7 +560,6 @@ public final class Waits extends Expectations {
         Object lent = pool.borrowObject();
         factory.isBegun.set(false);
         factory.mayEnd.set(false);
-        ReentrantLock lock = Queueing.lockOf(pool);
         Throwable[] thrown = {null};
         Thread returner = new Thread(() -> {
             try {
@@ -573,12 +571,12 @@ public final class Waits extends Expectations {
         returner.setDaemon(true);
         returner.start();
         until(factory.isBegun::get);
-        lock.lock();
+        Runnable unlock = Queueing.lock(pool);
         Queueing.fillHeap();
         factory.mayEnd.set(true);
         returner.join(PATIENCE_MILLIS);
         boolean waits = returner.isAlive();
-        lock.unlock();
+        unlock.run();
         returner.join(LONGEST_MILLIS);
         Queueing.emptyHeap();
         expect("a return that finds the lock held", null, thrown[0]);

@@ -4,7 +4,6 @@ import java.lang.reflect.Field;
 import java.util.ArrayList;
 import java.util.List;
 import java.util.Objects;
-import java.util.concurrent.locks.ReentrantLock;
 
 /** Looks at the waiters of a pool without threads: which call is woken, and which is not. */
 public final class Queueing {
@@ -100,13 +99,15 @@ public final class Queueing {
         filling = null;
     }
 
-    /** Returns the lock of a pool. */
-    public static ReentrantLock lockOf(ZuphinkaPool<?> pool) throws ReflectiveOperationException {
+    /** Takes the lock of a pool, and returns what frees it. */
+    public static Runnable lock(ZuphinkaPool<?> pool) throws ReflectiveOperationException {
         Field sections = ZuphinkaPool.class.getDeclaredField("sections");
         sections.setAccessible(true);
         Field lock = Sections.class.getDeclaredField("lock");
         lock.setAccessible(true);
-        return (ReentrantLock) lock.get(sections.get(pool));
+        PoolLock taken = (PoolLock) lock.get(sections.get(pool));
+        taken.take();
+        return taken::free;
     }
 
     private void expect(String name, Object wanted, Object got) {
@@ -119,7 +120,7 @@ public final class Queueing {
     private List<Call<Object>> asleep(long first, int number) {
         List<Call<Object>> calls = new ArrayList<>();
         for (int position = 0; position < number; position++) {
-            Call<Object> call = new Call<Object>().begin(Core.KIND_BORROW, System.nanoTime(), null);
+            Call<Object> call = new Call<Object>().begin(Core.KIND_BORROW, 0, System.nanoTime(), null);
             call.ticket.number = first + position;
             waiters.add(call);
             calls.add(call);

@@ -12,13 +12,13 @@ final class Call<T> {
     long first;
     /** For how many nanoseconds it waits at most, besides what the core says; and by how many milliseconds it may wait longer than the settings say.
      * They are no less than any time of the settings if the limit is its own. */
-    long limitNanos;
+    long limitNanos = Long.MAX_VALUE;
     long moreMillis;
     /** How its object is destroyed. */
     DestroyMode mode = DestroyMode.NORMAL;
 
-    /** The call as the core keeps it. */
-    final long[] progress = new long[Core.WORDS];
+    /** Where the core keeps it while it is in progress. */
+    long progress;
     /** What it does next, and how it ended. */
     int action;
     int end;
@@ -59,8 +59,8 @@ final class Call<T> {
     boolean isRefused;
 
     /** When its wait is over by the core, if it is a borrow: in milliseconds of the core, and in nanoseconds since its beginning. */
-    long untilMillis;
-    long untilNanos;
+    long untilMillis = Long.MAX_VALUE;
+    long untilNanos = Long.MAX_VALUE;
     /** The ticket by which it is woken, and whether there is a processor to pause on. */
     final Waiters.Ticket ticket = new Waiters.Ticket();
     boolean mayPause;
@@ -70,43 +70,87 @@ final class Call<T> {
     final BooleanSupplier isAsleep = () -> !isWoken && !Thread.currentThread().isInterrupted();
     /** The next one of those that are woken in turns, by the lock of the pool. */
     Call<?> nextTurn;
+    /** Whether a thread makes it; otherwise it is kept for the next. The lock of the pool protects it. */
+    boolean isTaken;
+    /** Whether it has taken an unusual course, or has a limit of its own, since it was last kept. */
+    boolean isUnusual;
+    /** The next one of those that are kept for any object. */
+    Call<T> nextKept;
 
-    /** Begins anew. */
-    Call<T> begin(int newKind, long now, Member<T> object) {
+    /** Begins anew. What only unusual calls change is as it was at first. */
+    Call<T> begin(int newKind, int number, long now, Member<T> object) {
         kind = newKind;
-        caller = Callers.number();
+        caller = number;
         first = now;
+        action = Core.ACTION_GO_ON;
+        end = Core.END_NONE;
+        setMember(object);
+        isTaken = true;
+        isActivated = false;
+        return this;
+    }
+
+    void setMember(Member<T> object) {
+        if (member != object) {
+            member = object;
+        }
+    }
+
+    void setSettings(CoreSettings<T> next) {
+        if (settings != next) {
+            settings = next;
+        }
+    }
+
+    /** Ends: it is kept for the next call, which is not to find what it has changed. */
+    void leave() {
+        isTaken = false;
+        if (isUnusual) {
+            reset();
+        }
+    }
+
+    private void reset() {
+        isUnusual = false;
         limitNanos = Long.MAX_VALUE;
         moreMillis = 0;
         untilMillis = Long.MAX_VALUE;
         untilNanos = Long.MAX_VALUE;
         mode = DestroyMode.NORMAL;
-        action = Core.ACTION_GO_ON;
-        end = Core.END_NONE;
-        member = object;
-        isActivated = false;
         isGivenUp = false;
         hasFreed = false;
         hasReclaimed = false;
         isRefused = false;
-        thread = null;
-        return this;
-    }
-
-    /** Forgets what another call must not find. */
-    void clear() {
-        member = null;
-        settings = null;
         fault = null;
-        destroyFault = null;
         error = null;
         obstacle = null;
         lastReclaimed = null;
         thread = null;
     }
 
+    /** Returns the token of its object, or of none. */
+    long token() {
+        return member == null ? 0 : member.slot;
+    }
+
+    /** Returns whether a closed pool refuses it, whatever its journal has room for. */
+    boolean needsOpenPool() {
+        return kind == Core.KIND_BORROW || kind == Core.KIND_ADD || kind == Core.KIND_FILL || kind == Core.KIND_EVICT;
+    }
+
     boolean isDone() {
         return action == Core.ACTION_DONE;
+    }
+
+    /** Returns how it ends if it is over at once. */
+    int endAtOnce() {
+        return kind == Core.KIND_BORROW ? Core.END_LENT : Core.END_PARKED;
+    }
+
+    /** Returns whether it has lent its object, or that is idle by its return, and there is nothing left to do. */
+    boolean isPlain() {
+        boolean isGood = kind == Core.KIND_BORROW && end == Core.END_LENT || kind == Core.KIND_RETURN && end == Core.END_PARKED;
+        return isGood && error == null && destroyFault == null && reclaimed == null && !hasFreed;
     }
 
     /** Returns whether it has waited for an object. */
@@ -119,12 +163,11 @@ final class Call<T> {
         return nanos == Long.MAX_VALUE ? nanos : Math.max(0, nanos - (System.nanoTime() - first));
     }
 
-    /** Waits no longer than some nanoseconds, in place of the time that any settings allow; if they are negative, that time. */
-    void limitTo(long nanos) {
-        if (nanos >= 0) {
-            limitNanos = nanos;
-            moreMillis = CoreSettings.MOST_MILLIS;
-        }
+    /** Waits no longer than some nanoseconds, nor than the settings say and some milliseconds more. */
+    void limitTo(long nanos, long millis) {
+        limitNanos = nanos;
+        moreMillis = millis;
+        isUnusual = true;
     }
 
     /** Returns for how many nanoseconds a borrow may wait yet for room in the journal, by these settings: as long as for an object. */

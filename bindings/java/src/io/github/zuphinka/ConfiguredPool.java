@@ -345,8 +345,9 @@ abstract class ConfiguredPool<T> {
      * Sets the age at which objects are destroyed: at their return, and by eviction runs while they are idle. No object is taken from its holder.
      *
      * <p>Eviction runs then examine all idle objects. They test as many of them as {@code numTestsPerEvictionRun} says if {@code testWhileIdle} is set, and
-     * look at the age of the others. The age is a failed test in the journal, and {@link ZuphinkaPool#getSettingsText} has {@code testWhileIdle = true} and
-     * {@code numTestsPerEvictionRun = -1}. {@link #setConfig} and {@link #reconfigure} leave it as it is.
+     * look at the age of the others. In the journal the age is a failed test, and the return of an object that is too old is an invalidation. {@link
+     * ZuphinkaPool#getSettingsText} has {@code testWhileIdle = true} and {@code numTestsPerEvictionRun = -1}. {@link #setConfig} and {@link #reconfigure}
+     * leave it as it is.
      *
      * @param value a time; 0 or negative: at none
      */

@@ -3,10 +3,10 @@ package io.github.zuphinka;
 import java.nio.ByteBuffer;
 
 /**
- * The native methods of the proved core, and the codes of its calls. The caller holds the lock of the pool.
+ * The native methods of the proved core, and the codes of its calls. The caller holds the lock of the pool, where nothing else is said.
  *
  * <p>A reply is one number: the {@link #action}, the {@link #end}, whether there are more {@link #details}, and the {@link #token}; or a negative
- * status.
+ * status. That of a borrow or a return that is over {@link #isAtOnce at once} has its token alone: the object is lent, or idle, and nobody is to be woken.
  */
 final class Core {
     static final int KIND_BORROW = 1;
@@ -61,29 +61,18 @@ final class Core {
     static final int END_CANCELLED = 19;
     static final int END_CONTRADICTED = 20;
 
-    static final int INPUT_READY = 2;
-    static final int INPUT_PARK = 4;
-    static final int INPUT_USE = 6;
-    static final int INPUT_DESTROYED = 18;
-
-    static final int OUTCOME_GOOD = 1;
-    static final int OUTCOME_ACTIVATE_FAILED = 4;
-    static final int OUTCOME_TEST_FAILED = 5;
-    static final int OUTCOME_PASSIVATE_FAILED = 6;
-
-    static final int ANSWER_PARKED = 8;
-
     static final int STATUS_OUT_OF_MEMORY = -3;
     static final int STATUS_JOURNAL_FULL = -4;
+    /** Replies of {@link #begin} and {@link #advance}: the pool has other settings; and two after which the caller has not the lock. */
+    static final long OTHER_SETTINGS = -100;
+    static final long BUSY = -101;
+    static final long TOO_LITTLE_STACK = -102;
 
     /** The flags of {@link #open}: which methods of the factory the core asks for, and whether objects may be reclaimed. */
     static final int ACTIVATES = 1;
     static final int VALIDATES = 2;
     static final int PASSIVATES = 4;
     static final int RECLAIMS = 8;
-
-    /** The number of longs that keep a call in progress. Only the core reads and writes them. */
-    static final int WORDS = 13;
 
     /** Where the {@link #details} are: the object's id, and so on. */
     static final int OBJECT = 0;
@@ -92,6 +81,16 @@ final class Core {
     static final int WAKE = 24;
     static final int ENTRIES = 32;
     static final int RECLAIMED = 40;
+    static final int PROGRESS = 48;
+    static final int LATEST = 56;
+    static final int THRESHOLD = 64;
+    static final int SETTINGS = 72;
+    static final int LOCK = 76;
+    private static final long HAS_WAKE = 1 << 16;
+    private static final long HAS_UNTIL = 2 << 16;
+    private static final long AT_ONCE = 4 << 16;
+    private static final long HAS_RECLAIMED = 8 << 16;
+    private static final long IS_LOW = 16 << 16;
 
     static {
         NativeLibrary.load();
@@ -111,12 +110,43 @@ final class Core {
 
     /** Returns whether the call at {@link #WAKE}, and then those of {@link #nextWake}, are to be woken. */
     static boolean hasWake(long reply) {
-        return (reply & 1 << 16) != 0;
+        return (reply & HAS_WAKE) != 0;
     }
 
     /** Returns whether the wait is over at {@link #UNTIL}. */
     static boolean hasUntil(long reply) {
-        return (reply & 2 << 16) != 0;
+        return (reply & HAS_UNTIL) != 0;
+    }
+
+    /** Returns whether a borrow or a return is over, and nobody is to be woken. */
+    static boolean isAtOnce(long reply) {
+        return (reply & AT_ONCE) != 0;
+    }
+
+    /** Returns whether the same is true, and objects were not reclaimed. */
+    static boolean isPlainEnd(long reply) {
+        return (reply & 0xff_ffff & ~IS_LOW) == AT_ONCE;
+    }
+
+    /** Returns whether an object is to be activated, tested or passivated next, nobody is to be woken, and objects were not reclaimed. */
+    static boolean isPlainWork(long reply) {
+        long code = reply & 0xff_ffff & ~IS_LOW;
+        return code >= ACTION_ACTIVATE && code <= ACTION_PASSIVATE;
+    }
+
+    /** Returns whether objects were reclaimed by the last steps. */
+    static boolean hasReclaimed(long reply) {
+        return (reply & HAS_RECLAIMED) != 0;
+    }
+
+    /** Returns whether the journal has entries from {@link #THRESHOLD} on. */
+    static boolean isLow(long reply) {
+        return (reply & IS_LOW) != 0;
+    }
+
+    /** Returns whether the next action is for an object, whose {@link #token} the reply has; or an object is lent. */
+    static boolean hasObject(long reply) {
+        return action(reply) >= ACTION_ACTIVATE && action(reply) <= ACTION_DESTROY || end(reply) == END_LENT;
     }
 
     /** Returns the token of the call's object. */
@@ -124,8 +154,11 @@ final class Core {
         return (int) (reply >>> 24);
     }
 
-    /** Opens a core by the text of its settings, and returns its handle, or a negative status. Waiters are overtaken at most so often. */
-    static native long open(byte[] settings, int flags, long overtakes);
+    /**
+     * Opens a core by the text of its settings, and returns its handle, or a negative status. Waiters are overtaken at most so often. A call begins only
+     * with so many bytes of the stack left. It needs no lock.
+     */
+    static native long open(byte[] settings, int flags, long overtakes, long stack);
 
     /** Goes on with the text of other settings and other {@link #RECLAIMS}, and cuts the journal. Returns 0, or a negative status: nothing changed. */
     static native int reconfigure(long core, byte[] settings, int flags);
@@ -139,17 +172,14 @@ final class Core {
     /** Returns how many bytes of its stack the thread has left, those included that the virtual machine keeps for itself. The caller needs no lock. */
     static native long stackLeft();
 
-    /** Begins a call, which is kept in the longs. */
-    static native long begin(long core, long[] progress, long at, long id, long token, int caller, int kind);
+    /**
+     * Begins a call for the settings with this number, or for any if it is 0, and takes the lock for that, unless the caller holds it. The caller frees it.
+     * While the call is in progress it is at {@link #PROGRESS}.
+     */
+    static native long begin(long core, long at, long id, long token, int caller, int kind, int settings, boolean isHeld);
 
-    /** Goes on with a call of a kind, which is kept in the longs, after a report. */
-    static native long advance(long core, long[] progress, long at, long token, int caller, int kind, int report);
-
-    /** Lends an idle object at once, and returns its token; or a negative status, and the borrow is to be begun. */
-    static native long lend(long core, long at, int caller);
-
-    /** Takes an object back at once. Returns whether it did; otherwise the return is to be begun. */
-    static native boolean takeBack(long core, long at, long id, long token, int caller);
+    /** Goes on with a call in progress after a report, with the lock as {@link #begin}. */
+    static native long advance(long core, long progress, long at, long token, int caller, int report, boolean isHeld);
 
     /** Returns the ticket of the next call to wake, or a negative status. */
     static native long nextWake(long core);
@@ -163,14 +193,8 @@ final class Core {
     /** Sets how often a waiter is overtaken at most. Returns the bound, which is greater while one waits that was overtaken more often. */
     static native long setOvertakes(long core, long most);
 
-    /** Takes a step with an object. Returns its answer, or a negative status. */
-    static native int step(long core, long at, long id, long token, int caller, int input, int outcome);
-
-    /** Takes an idle object by the first step of a borrow, and returns its token; or a negative status, and the borrow is to be begun. */
-    static native long take(long core, long at, int caller);
-
-    /** Takes the first step of the return of an object. Returns whether it did; otherwise the return is to be begun. */
-    static native boolean check(long core, long at, long id, int caller);
+    /** Notes a use of the object with this id, also one at an earlier time than that of other steps. Returns 0 or a negative status. */
+    static native int use(long core, long at, long id, int caller);
 
     /** Stores the counts, in the order of {@link Counts}. */
     static native void counts(long core, long[] to);

@@ -38,6 +38,8 @@ final class CoreSettings<T> {
     /** After how many nanoseconds without a use a lent object is abandoned, if objects can be. */
     final long abandonedNanos;
     private final String text;
+    /** By which the core knows them; 0 until they are those of the pool. It changes with the lock of the pool, before they are. */
+    int number;
 
     /**
      * Copies configurations.

@@ -13,7 +13,7 @@ final class Flusher {
     /** For how long an exit waits at most for another thread that stores something. */
     private static final long LONGEST_EXIT = TimeUnit.SECONDS.toNanos(10);
 
-    private final WeakReference<Sections<?>> sections;
+    private final WeakReference<Storing<?>> storing;
     private final WeakReference<ClassLoader> context;
     private final long pauseNanos;
     private final Thread hook = Maintenance.thread(this::exit, "zuphinka-exit");
@@ -21,8 +21,8 @@ final class Flusher {
     /** Null: it has ended, or does after one more round. */
     private Thread thread;
 
-    Flusher(Sections<?> sections, Duration pause, WeakReference<ClassLoader> context) {
-        this.sections = new WeakReference<>(sections);
+    Flusher(Storing<?> storing, Duration pause, WeakReference<ClassLoader> context) {
+        this.storing = new WeakReference<>(storing);
         this.context = context;
         pauseNanos = Maintenance.nanos(pause);
     }
@@ -56,7 +56,7 @@ final class Flusher {
 
     /** Returns whether the thread ends after this round. From now on another one begins for what the pool does later. */
     private synchronized boolean isLastRound() {
-        Sections<?> kept = sections.get();
+        Storing<?> kept = storing.get();
         boolean isLast = kept == null || kept.isClosed();
         thread = isLast ? null : thread;
         return isLast;
@@ -74,7 +74,7 @@ final class Flusher {
 
     /** Stores all entries, with the class loader of the context in which the pool was made: the sink may be the user's. */
     private void flush(long longestNanos) {
-        Sections<?> kept = sections.get();
+        Storing<?> kept = storing.get();
         if (kept != null) {
             Thread.currentThread().setContextClassLoader(context.get());
             kept.flushQuietly(longestNanos);

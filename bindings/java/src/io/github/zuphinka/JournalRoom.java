@@ -7,9 +7,9 @@ import java.nio.ByteOrder;
 final class JournalRoom {
     private JournalRoom() {}
 
-    /** Opens a core by settings and the flags of {@link Core#open}, and returns its handle. */
-    static long open(CoreSettings<?> settings, int flags, long overtakes) {
-        long opened = Core.open(settings.bytes(), flags, overtakes);
+    /** Opens a core by settings, flags and numbers of {@link Core#open}, and returns its handle. */
+    static long open(CoreSettings<?> settings, int flags, long overtakes, long stack) {
+        long opened = Core.open(settings.bytes(), flags, overtakes, stack);
         if (opened == Core.STATUS_OUT_OF_MEMORY) {
             throw new OutOfMemoryError("zuphinka: no memory for a pool");
         }
@@ -35,7 +35,7 @@ final class JournalRoom {
 
     /** Returns how many objects of any number can be lent. The entries of each loan may be cut off before the next. */
     private static long mostLent(CoreSettings<?> settings, boolean isCut) {
-        long core = open(settings, 0, 0);
+        long core = open(settings, 0, 0, 0);
         try {
             long room = roomOf(core);
             if (!lendsOne(core)) {
@@ -63,10 +63,9 @@ final class JournalRoom {
 
     /** Lends an object as a borrow does that makes one, and returns whether there was room. */
     private static boolean lendsOne(long core) {
-        long[] progress = new long[Core.WORDS];
-        long begun = Core.begin(core, progress, 0, 0, 0, 0, Core.KIND_BORROW);
+        long begun = Core.begin(core, 0, 0, 0, 0, Core.KIND_BORROW, 0, true);
         boolean makes = hasDone(begun) && Core.action(begun) == Core.ACTION_MAKE;
-        return makes && hasDone(Core.advance(core, progress, 0, 0, 0, Core.KIND_BORROW, Core.REPORT_MADE));
+        return makes && hasDone(Core.advance(core, detailsOf(core).getLong(Core.PROGRESS), 0, 0, 0, Core.REPORT_MADE, true));
     }
 
     /** Returns whether a reply is none of a lack of memory. */

@@ -15,6 +15,7 @@ final class Leaks<T> {
     private final ZuphinkaPool<T> pool;
     private final Objects<T> objects;
     private final Sections<T> sections;
+    private final Numbers numbers;
     private final WeakReference<ClassLoader> context;
     private volatile Duration threshold = Duration.ZERO;
     private volatile boolean isOn;
@@ -23,10 +24,11 @@ final class Leaks<T> {
     /** Null: the limit is 0 or negative, or the pool is closed. */
     private Maintenance thread;
 
-    Leaks(ZuphinkaPool<T> pool, Objects<T> objects, Sections<T> sections, WeakReference<ClassLoader> context) {
+    Leaks(ZuphinkaPool<T> pool, Objects<T> objects, Sections<T> sections, Numbers numbers, WeakReference<ClassLoader> context) {
         this.pool = pool;
         this.objects = objects;
         this.sections = sections;
+        this.numbers = numbers;
         this.context = context;
     }
 
@@ -88,7 +90,7 @@ final class Leaks<T> {
         for (Member<T> member : objects.all()) {
             Lender lender = member.lender;
             long nanos = lender == null ? 0 : System.nanoTime() - lender.lentAt;
-            if (nanos > limit && !lender.isTold && sections.isLent(member, lender.loan)) {
+            if (nanos > limit && !lender.isTold && numbers.isLent(member, lender.loan)) {
                 lender.isTold = true;
                 tell(new Leak(sections.name(), member.id, lender, Duration.ofNanos(nanos)));
             }

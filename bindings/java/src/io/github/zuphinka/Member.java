@@ -24,13 +24,13 @@ final class Member<T> {
     long madeAt;
     /** Whether a call destroys it, or did. It is set by the one call that has it, or with the lock as it is reclaimed. */
     boolean isGone;
-    /** Why the last work of the factory on it failed; null if it did not. Only a pair of two steps notes it. */
-    Throwable fault;
     /** The ones before it and after it, of those that have a place; or the next one of those that a call reclaimed. */
     Member<T> previous;
     Member<T> next;
 
     // The lock of the pool protects what follows.
+    /** The call for its loans and its return, which needs no memory then. */
+    Call<T> call;
     private long loans;
     private boolean isLent;
     /** When it was last lent and returned, by {@link System#nanoTime}. */

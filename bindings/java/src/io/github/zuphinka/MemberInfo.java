@@ -5,17 +5,17 @@ import org.apache.commons.pool2.impl.DefaultPooledObjectInfo;
 
 /** What is known of an object whose wrapper is not told of its loans. It is always up to date, as that of the library. */
 final class MemberInfo extends DefaultPooledObjectInfo {
-    private final Sections<?> sections;
+    private final Numbers numbers;
     private final Member<?> member;
 
-    MemberInfo(Sections<?> sections, Member<?> member) {
+    MemberInfo(Numbers numbers, Member<?> member) {
         super(member.pooled);
-        this.sections = sections;
+        this.numbers = numbers;
         this.member = member;
     }
 
     private Loans loans() {
-        return sections.loansOf(member);
+        return numbers.loansOf(member);
     }
 
     @Override

@@ -15,13 +15,17 @@ final class Pauses {
     /** Has the class initialized, which would fail for good on a full heap. */
     static void load() {}
 
-    /** Pauses while a condition is true, for some nanoseconds at most, and not at all on one processor. */
-    static void pauseWhile(BooleanSupplier isToWait, long longestNanos) {
+    /** Pauses while a condition is true, for some nanoseconds at most, and not at all on one processor. Returns whether it was found to be false. */
+    static boolean isOverAfter(BooleanSupplier isToWait, long longestNanos) {
         long now = System.nanoTime();
         long end = now + (PROCESSORS > 1 ? Math.min(ALL, longestNanos) : 0);
-        for (long pause = FIRST; now - end < 0 && isToWait.getAsBoolean(); pause = Math.min(2 * pause, LONGEST)) {
+        for (long pause = FIRST; now - end < 0; pause = Math.min(2 * pause, LONGEST)) {
+            if (!isToWait.getAsBoolean()) {
+                return true;
+            }
             now = pauseUntil(now + Math.min(pause, end - now));
         }
+        return false;
     }
 
     /** Pauses until this time of {@link System#nanoTime} is over, and returns what it is then. */

@@ -1,6 +1,7 @@
 package io.github.zuphinka;
 
 import java.io.IOException;
+import java.nio.ByteBuffer;
 import java.util.ArrayList;
 import java.util.List;
 import java.util.concurrent.TimeUnit;
@@ -22,16 +23,14 @@ final class StoredJournal {
     private static final long MOST_WAITING = 16 << 20;
 
     private final long core;
+    /** What the last reply of the core says: how many entries are stored. */
+    private final ByteBuffer details;
     private final Journal journal;
     /** Stores what is cut off; null if that is dropped or kept. */
     private final SegmentSink sink;
     private CoreSettings<?> settings;
-    /** How many entries are stored. */
-    private long entries;
     /** How often it was cut. It changes with the lock of the pool. */
     private volatile long cuts;
-    /** At how many entries it is looked at again. */
-    private long threshold;
     /** The counts of the core when they were last read, which needs no memory. */
     private final long[] numbers = new long[Counts.NUMBERS];
     private final Counts latest = new Counts(numbers);
@@ -48,8 +47,9 @@ final class StoredJournal {
     /** Held while a segment is stored, so that segments are stored one at a time. The lock of the pool is not held meanwhile. */
     private final ReentrantLock storing = new ReentrantLock();
 
-    StoredJournal(long core, Journal journal, SegmentSink sink, CoreSettings<?> settings) {
+    StoredJournal(long core, ByteBuffer details, Journal journal, SegmentSink sink, CoreSettings<?> settings) {
         this.core = core;
+        this.details = details;
         this.journal = journal;
         this.sink = sink;
         this.settings = settings;
@@ -62,19 +62,13 @@ final class StoredJournal {
         return journal.isDropped ? Math.min(half, Math.max(DROPPED_ENTRIES, ENTRIES_PER_OBJECT * present)) : half;
     }
 
-    /** Counts more entries. */
-    void add(long more) {
-        entries += more;
-    }
-
-    /** Notes how many entries there are. */
-    void noteEntries(long number) {
-        entries = number;
+    private long entries() {
+        return details.getLong(Core.ENTRIES);
     }
 
     /** Returns whether entries are in memory. */
     boolean hasEntries() {
-        return sink != null && entries > 0;
+        return sink != null && entries() > 0;
     }
 
     /** Returns whether the journal is kept: nothing but a call of the user's cuts it. */
@@ -89,17 +83,23 @@ final class StoredJournal {
 
     /** Cuts the journal if it has enough entries, and may be cut. The segments that wait are due then. So many objects are present. */
     void cutIfLow(int present) {
-        if (entries < threshold || isKept()) {
+        long entries = entries();
+        if (entries < details.getLong(Core.THRESHOLD)) {
             return;
         }
-        threshold = enough(present);
-        if (entries < threshold) {
+        setThreshold(enough(present));
+        if (entries < enough(present)) {
             return;
         }
         isDue |= isPending();
         if (!mayBeCut() || !cut()) {
-            threshold = entries + Math.max(1, Math.min(entries, (journal.limit - entries) / 2));
+            setThreshold(entries + Math.max(1, Math.min(entries, (journal.limit - entries) / 2)));
         }
+    }
+
+    /** Has the journal looked at again at so many entries, unless it is kept. */
+    private void setThreshold(long number) {
+        details.putLong(Core.THRESHOLD, isKept() ? Long.MAX_VALUE : number);
     }
 
     /** Cuts the journal, and returns whether there was memory for that. */
@@ -130,9 +130,8 @@ final class StoredJournal {
     }
 
     private void noteCut() {
-        entries = 0;
         cuts++;
-        threshold = enough(0);
+        setThreshold(enough(0));
         outstanding = journal.limit - latest().room();
     }
 

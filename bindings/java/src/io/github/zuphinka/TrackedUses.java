@@ -12,13 +12,17 @@ import org.apache.commons.pool2.TrackedUse;
 final class TrackedUses<T> {
     /** Such an answer may be rounded down to a millisecond. */
     private static final long ROUNDING_MILLIS = 1;
+    /** The times of the core are, and those of its settings. */
+    private static final long ROUNDING_NANOS = 2_000_000;
 
     private final Sections<T> sections;
+    private final Room<T> room;
     private final Work<T> work;
 
-    TrackedUses(Sections<T> sections, Work<T> work) {
+    TrackedUses(Sections<T> sections, Room<T> room) {
         this.sections = sections;
-        this.work = work;
+        this.room = room;
+        work = sections.work;
     }
 
     /** Remembers the answer of an object whose loan begins, or whose use is noted, if it can be abandoned. It is asked again if it throws. */
@@ -40,6 +44,22 @@ final class TrackedUses<T> {
         return ((TrackedUse) member.pooled.getObject()).getLastUsedInstant();
     }
 
+    /**
+     * Notes the uses of lent objects, for a borrow with a limit that may reclaim those that know themselves when they were last used: idle objects and
+     * places are scarce, or may be once the journal has room.
+     */
+    void noteForBorrow(long first, long longestNanos) throws Exception {
+        if (sections.settings().reclaimsOnBorrow && work.hasTracked() && sections.locked(this::isNearLimit)) {
+            note(Core.KIND_BORROW, first, longestNanos);
+        }
+    }
+
+    private boolean isNearLimit() {
+        Counts now = sections.journal.latest();
+        int maxTotal = sections.settings().maxTotal;
+        return now.idle() < 2 && (maxTotal < 0 || now.lent() + now.reserved() > maxTotal - 3) || now.room() == 0;
+    }
+
     /** Notes the uses of all lent objects that may be abandoned soon, for a borrow with a limit or another call. */
     void note(int kind, long first, long longestNanos) throws Exception {
         if (!work.hasTracked()) {
@@ -47,10 +67,10 @@ final class TrackedUses<T> {
         }
         for (Member<T> member : work.all()) {
             long known = member.usedAt();
-            if (sections.isSoonAbandoned(known) && isTracked(member) && member.pooled.getState() == PooledObjectState.ALLOCATED) {
+            if (isSoonAbandoned(known) && isTracked(member) && member.pooled.getState() == PooledObjectState.ALLOCATED) {
                 Instant reported = reportOf(member);
                 if (!reported.equals(member.reported)) {
-                    sections.noteUse(member, nanosSince(reported, known), kind, first, longestNanos);
+                    noteUse(member, nanosSince(reported, known), kind, first, longestNanos);
                     member.reported = reported;
                 }
             }
@@ -65,5 +85,53 @@ final class TrackedUses<T> {
         Duration ago = Duration.between(reported, Instant.now());
         Duration most = Duration.ofNanos(System.nanoTime() - known).plusMillis(ROUNDING_MILLIS);
         return ago.isNegative() || ago.compareTo(most) > 0 ? 0 : ago.toNanos();
+    }
+
+    /**
+     * Returns whether a lent object that was last used at this time of {@link System#nanoTime} is abandoned by now, or may be until the core looks, at
+     * the latest after half of the time for that. It takes no lock.
+     */
+    private boolean isSoonAbandoned(long usedAt) {
+        return System.nanoTime() - usedAt >= sections.settings().abandonedNanos / 2 - ROUNDING_NANOS;
+    }
+
+    /** Notes that the holder of an object last used it so many nanoseconds ago, for a borrow with a limit or another call. */
+    private void noteUse(Member<T> member, long nanosAgo, int kind, long first, long longestNanos) throws Exception {
+        Call<T> call = new Call<T>().begin(kind, Callers.number(), first, null);
+        if (longestNanos >= 0) {
+            call.limitTo(longestNanos, CoreSettings.MOST_MILLIS);
+        }
+        long used = System.nanoTime() - nanosAgo;
+        while (!hasNoted(member, Math.max(used, sections.start), call)) {
+            if (room.make(call) != Core.REPORT_ROOM_MADE) {
+                boolean isRefused = sections.isClosed() && call.needsOpenPool();
+                call.end = isRefused ? Core.END_CLOSED : call.isGivenUp ? Core.END_CANCELLED : Core.END_JOURNAL_FULL;
+                Ends.check(call);
+            }
+        }
+    }
+
+    /** Notes a use at a time of {@link System#nanoTime}, unless a later one or loan is known, and returns whether the journal had room for that. */
+    private boolean hasNoted(Member<T> member, long used, Call<T> call) {
+        sections.take();
+        try {
+            if (!member.isUsedBefore(used)) {
+                return true;
+            }
+            sections.see(call.caller);
+            int status = Core.use(sections.core, sections.millis(used), member.id, call.caller);
+            if (status == Core.STATUS_JOURNAL_FULL) {
+                call.cuts = sections.journal.cuts();
+                call.isRefused = sections.isClosed();
+                return false;
+            }
+            if (status < 0) {
+                throw new OutOfMemoryError("zuphinka: no memory for a step");
+            }
+            member.use(used);
+            return true;
+        } finally {
+            sections.release();
+        }
     }
 }

@@ -53,14 +53,9 @@ final class Work<T> {
 
     /** Goes on with other settings. */
     void use(CoreSettings<T> next) {
-        isWrapperUnseen = isBorrowedBare(next) && isReturnedBare(next) && !next.canBeAbandoned() && next.policy == null
+        isWrapperUnseen = !activates && !next.testOnBorrow && isReturnedBare(next) && !next.canBeAbandoned() && next.policy == null
                 && !(next.testWhileIdle && validates) && !destroys;
         settings = next;
-    }
-
-    /** Returns whether an idle object is lent without any work. */
-    boolean isBorrowedBare(CoreSettings<T> some) {
-        return !activates && !some.testOnBorrow;
     }
 
     /** Returns whether a returned object is idle without any work. */
@@ -111,7 +106,7 @@ final class Work<T> {
     /** Does what a call is asked for. Returns the report. */
     int act(Call<T> call) {
         try {
-            boolean isExamined = call.settings.examines() && call.kind == Core.KIND_EVICT && call.action != Core.ACTION_DESTROY;
+            boolean isExamined = call.kind == Core.KIND_EVICT && call.action != Core.ACTION_DESTROY && call.settings.examines();
             return isExamined ? examine(call) : actOnObject(call);
         } catch (Throwable e) {
             return failed(call, e);
@@ -170,6 +165,7 @@ final class Work<T> {
 
     /** Keeps a failure until it is thrown or told. Returns the report. */
     private int failed(Call<T> call, Throwable failure) {
+        call.isUnusual = true;
         if (!call.keepsError(failure)) {
             if (call.action == Core.ACTION_DESTROY && call.kind != Core.KIND_INVALIDATE) {
                 call.destroyFault = failure;
@@ -192,54 +188,6 @@ final class Work<T> {
         }
         swallow(call.destroyFault);
         call.destroyFault = null;
-    }
-
-    // Pairs of two steps.
-
-    /** Activates and tests an idle object that a borrow took by these settings. Returns the outcome, and notes what failed. */
-    int makeReady(Member<T> member, CoreSettings<T> of) {
-        int failed = Core.OUTCOME_ACTIVATE_FAILED;
-        try {
-            tellLoan(member);
-            factory.activateObject(member.pooled);
-            failed = Core.OUTCOME_TEST_FAILED;
-            return !of.testOnBorrow || isValid(member) ? Core.OUTCOME_GOOD : failed;
-        } catch (Throwable e) {
-            member.fault = e;
-            return failed;
-        }
-    }
-
-    /** Tests and passivates an object that is returned by these settings. Returns the outcome, and notes what failed. */
-    int putAway(Member<T> member, CoreSettings<T> of) {
-        int failed = Core.OUTCOME_TEST_FAILED;
-        try {
-            if (of.testOnReturn && !isValid(member)) {
-                return failed;
-            }
-            failed = Core.OUTCOME_PASSIVATE_FAILED;
-            factory.passivateObject(member.pooled);
-            tellReturn(member);
-            return Core.OUTCOME_GOOD;
-        } catch (Throwable e) {
-            member.fault = e;
-            return failed;
-        }
-    }
-
-    private boolean isValid(Member<T> member) {
-        return factory.validateObject(member.pooled);
-    }
-
-    /** Destroys an object. Returns what the factory threw, or null. */
-    Throwable destroyed(Member<T> member) {
-        try {
-            member.isGone = true;
-            discard(member, DestroyMode.NORMAL);
-            return null;
-        } catch (Throwable e) {
-            return e;
-        }
     }
 
     // New objects.
@@ -309,7 +257,7 @@ final class Work<T> {
         if (call.kind == Core.KIND_BORROW && call.isActivated) {
             tellLoan(call.member);
         }
-        if (!isValid(call.member)) {
+        if (!factory.validateObject(call.member.pooled)) {
             call.fault = INVALID;
             return Core.REPORT_FAILED;
         }

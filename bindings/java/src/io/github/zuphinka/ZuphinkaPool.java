@@ -30,8 +30,7 @@ import org.apache.commons.pool2.impl.GenericObjectPoolConfig;
  * is lent, kept, tested or destroyed, and when one is made.
  *
  * <p>Proved is each step of the core, and the one line of the journal that records it; what a call does after each step; and which thread that waits
- * is woken. Tested, not proved, is this class: its lock, the sleep of its threads, and what a call with activation, passivation or tests does between
- * its two steps. The factory's methods run without the lock.
+ * is woken. Tested, not proved, is this class: its lock, the sleep of its threads, and the objects. The factory's methods run without the lock.
  *
  * <p>The configurations are copied, and later changes to them have no effect. {@link #reconfigure} and the setters change the settings of a pool while
  * it is used. Any number of threads may use a pool.
@@ -57,6 +56,9 @@ public class ZuphinkaPool<T> extends ConfiguredPool<T> implements ObjectPool<T>,
     private final Objects<T> objects = new Objects<>();
     private final Work<T> work;
     private final Sections<T> sections;
+    private final Storing<T> storing;
+    private final Calls<T> calls;
+    private final Numbers numbers;
     private final Leaks<T> leaks;
     private final Construction construction = new Construction(this, ZuphinkaPool.class);
     /** The threads that are in {@link #swallowed}. */
@@ -127,16 +129,19 @@ public class ZuphinkaPool<T> extends ConfiguredPool<T> implements ObjectPool<T>,
         CoreSettings<T> settings = new CoreSettings<>(config, abandoned, journal.limit, Duration.ZERO);
         work = new Work<>(factory, settings, objects, this::swallow);
         sections = new Sections<>(settings, journal, work);
-        leaks = new Leaks<>(this, objects, sections, context);
+        storing = new Storing<>(sections);
+        calls = new Calls<>(sections, storing);
+        numbers = new Numbers(sections);
+        leaks = new Leaks<>(this, objects, sections, numbers, context);
         try {
             beanName = config.getJmxEnabled() ? PoolBean.register(this, config, factory.getClass().getName()) : null;
             isRegistered.set(beanName != null);
             sections.setName(nameOf(beanName, config, factory));
             startMaintenance();
-            sections.startFlusher(journal, context);
+            storing.startFlusher(journal, context);
         } catch (Throwable e) {
             unregister();
-            sections.undo();
+            storing.undo();
             throw e;
         }
     }
@@ -172,7 +177,7 @@ public class ZuphinkaPool<T> extends ConfiguredPool<T> implements ObjectPool<T>,
             known = settings();
         } while (!sections.isReconfigured(known, change.apply(known)));
         startMaintenance();
-        sections.storeWaiting();
+        storing.storeWaiting();
     }
 
     /** Has a maintenance thread with the pause of the settings, or none, in place of one with another pause. */
@@ -289,7 +294,7 @@ public class ZuphinkaPool<T> extends ConfiguredPool<T> implements ObjectPool<T>,
         if (times < 0) {
             throw new IllegalArgumentException("maxOvertakes: " + times + " is negative");
         }
-        sections.setMaxOvertakes(times);
+        numbers.setMaxOvertakes(times);
     }
 
     /**
@@ -298,7 +303,7 @@ public class ZuphinkaPool<T> extends ConfiguredPool<T> implements ObjectPool<T>,
      * @return a number from 0
      */
     public int getMaxOvertakes() {
-        return sections.maxOvertakes();
+        return numbers.maxOvertakes();
     }
 
     /**
@@ -313,7 +318,7 @@ public class ZuphinkaPool<T> extends ConfiguredPool<T> implements ObjectPool<T>,
     private T borrow(long longestNanos) throws Exception {
         long first = System.nanoTime();
         for (;;) {
-            Member<T> member = sections.borrow(first, longestNanos);
+            Member<T> member = calls.borrow(first, longestNanos);
             if (isTold(member)) {
                 leaks.noteLoan(member);
                 return member.pooled.getObject();
@@ -325,7 +330,7 @@ public class ZuphinkaPool<T> extends ConfiguredPool<T> implements ObjectPool<T>,
     private boolean isTold(Member<T> member) throws Exception {
         try {
             work.tellLoan(member);
-            sections.uses.remember(member);
+            calls.uses.remember(member);
             return true;
         } catch (Throwable e) {
             endLoan(member);
@@ -339,8 +344,8 @@ public class ZuphinkaPool<T> extends ConfiguredPool<T> implements ObjectPool<T>,
         try {
             invalidateQuietly(member);
         } catch (OutOfMemoryError e) {
-            while (!member.isGone && !sections.isGivenBack(member, settings())) {
-                // Other settings came between.
+            if (!member.isGone) {
+                calls.giveBack(member);
             }
             throw e;
         }
@@ -355,7 +360,7 @@ public class ZuphinkaPool<T> extends ConfiguredPool<T> implements ObjectPool<T>,
     /** Destroys a lent object whose wrapper failed, whatever the factory throws but an error. */
     private void invalidateQuietly(Member<T> member) {
         try {
-            sections.make(Core.KIND_INVALIDATE, member, DestroyMode.NORMAL);
+            calls.make(Core.KIND_INVALIDATE, member, DestroyMode.NORMAL);
         } catch (Exception e) {
             swallow(e);
         }
@@ -382,13 +387,13 @@ public class ZuphinkaPool<T> extends ConfiguredPool<T> implements ObjectPool<T>,
         while (!isReturned(member, settings())) {
             // Other settings came between.
         }
-        sections.storeDue();
+        storing.storeDue();
     }
 
     /** Returns an object by these settings, if the pool still has them. Returns whether it had; or true if the object is destroyed. */
     private boolean isReturned(Member<T> member, CoreSettings<T> of) {
         boolean isDestroyed = work.isReturnedBare(of) && !isToldOfReturn(member);
-        return isDestroyed || sections.isGivenBack(member, of);
+        return isDestroyed || calls.isGivenBack(member, of);
     }
 
     /** Tells the wrapper of an object that it is returned, before another thread may have it. If that fails it is destroyed, and this returns false. */
@@ -431,8 +436,8 @@ public class ZuphinkaPool<T> extends ConfiguredPool<T> implements ObjectPool<T>,
             return;
         }
         Leaks.forget(member);
-        sections.make(Core.KIND_INVALIDATE, member, mode);
-        sections.storeDue();
+        calls.make(Core.KIND_INVALIDATE, member, mode);
+        storing.storeDue();
     }
 
     /**
@@ -448,9 +453,9 @@ public class ZuphinkaPool<T> extends ConfiguredPool<T> implements ObjectPool<T>,
             return;
         }
         member.pooled.use();
-        sections.make(Core.KIND_TOUCH, member);
-        sections.uses.remember(member);
-        sections.storeDue();
+        calls.make(Core.KIND_TOUCH, member);
+        calls.uses.remember(member);
+        storing.storeDue();
     }
 
     // Upkeep.
@@ -463,8 +468,8 @@ public class ZuphinkaPool<T> extends ConfiguredPool<T> implements ObjectPool<T>,
      */
     @Override
     public void addObject() throws Exception {
-        sections.make(Core.KIND_ADD, null, DestroyMode.NORMAL);
-        sections.storeDue();
+        calls.make(Core.KIND_ADD, null, DestroyMode.NORMAL);
+        storing.storeDue();
     }
 
     /**
@@ -474,8 +479,8 @@ public class ZuphinkaPool<T> extends ConfiguredPool<T> implements ObjectPool<T>,
      * @throws Exception if the factory fails to make or to passivate one; the same exception. Those made before stay idle
      */
     public void preparePool() throws Exception {
-        sections.make(Core.KIND_FILL, null, DestroyMode.NORMAL);
-        sections.storeDue();
+        calls.make(Core.KIND_FILL, null, DestroyMode.NORMAL);
+        storing.storeDue();
     }
 
     /**
@@ -488,7 +493,7 @@ public class ZuphinkaPool<T> extends ConfiguredPool<T> implements ObjectPool<T>,
     public void maintain() throws Exception {
         evict();
         preparePool();
-        sections.storePending();
+        storing.storePending();
     }
 
     /**
@@ -505,20 +510,20 @@ public class ZuphinkaPool<T> extends ConfiguredPool<T> implements ObjectPool<T>,
      * @throws Exception if an override does; this method throws none that is checked
      */
     public void evict() throws Exception {
-        sections.make(Core.KIND_EVICT, null);
+        calls.make(Core.KIND_EVICT, null);
         CoreSettings<T> settings = settings();
         if (settings.reclaimsOnMaintenance) {
-            sections.uses.note(Core.KIND_RECLAIM, System.nanoTime(), -1);
-            sections.make(Core.KIND_RECLAIM, null);
+            calls.uses.note(Core.KIND_RECLAIM, System.nanoTime(), -1);
+            calls.make(Core.KIND_RECLAIM, null);
         }
-        sections.storeDue();
+        storing.storeDue();
     }
 
     /** Destroys all idle objects, except those under an idle test. What the factory throws is passed to {@link #swallowed}. */
     @Override
     public void clear() {
-        sections.make(Core.KIND_CLEAR, null);
-        sections.storeDue();
+        calls.make(Core.KIND_CLEAR, null);
+        storing.storeDue();
     }
 
     /**
@@ -534,7 +539,7 @@ public class ZuphinkaPool<T> extends ConfiguredPool<T> implements ObjectPool<T>,
     @Override
     public void close() {
         try {
-            sections.make(Core.KIND_CLOSE, null);
+            calls.make(Core.KIND_CLOSE, null);
         } finally {
             if (sections.isClosed()) {
                 end();
@@ -553,7 +558,7 @@ public class ZuphinkaPool<T> extends ConfiguredPool<T> implements ObjectPool<T>,
         leaks.stop();
         Maintenance.await(ending, settings().config.getEvictorShutdownTimeoutDuration());
         unregister();
-        sections.endJournal();
+        storing.endJournal();
     }
 
     // Leaks.
@@ -620,7 +625,7 @@ public class ZuphinkaPool<T> extends ConfiguredPool<T> implements ObjectPool<T>,
      * @return the counts, which later calls do not change
      */
     public Counts getCounts() {
-        return sections.counts();
+        return numbers.counts();
     }
 
     /**
@@ -631,7 +636,7 @@ public class ZuphinkaPool<T> extends ConfiguredPool<T> implements ObjectPool<T>,
      * @throws NullPointerException if the name is null
      */
     public Metrics metrics(String name) {
-        return sections.metrics(Metrics.label(name));
+        return numbers.metrics(Metrics.label(name));
     }
 
     /**
@@ -641,7 +646,7 @@ public class ZuphinkaPool<T> extends ConfiguredPool<T> implements ObjectPool<T>,
      */
     @Override
     public int getNumIdle() {
-        return (int) sections.counts().idle();
+        return (int) numbers.counts().idle();
     }
 
     /**
@@ -651,7 +656,7 @@ public class ZuphinkaPool<T> extends ConfiguredPool<T> implements ObjectPool<T>,
      */
     @Override
     public int getNumActive() {
-        Counts counts = sections.counts();
+        Counts counts = numbers.counts();
         return (int) (counts.lent() + counts.reserved());
     }
 
@@ -661,7 +666,7 @@ public class ZuphinkaPool<T> extends ConfiguredPool<T> implements ObjectPool<T>,
      * @return a number from 0
      */
     public int getNumWaiters() {
-        return sections.usage().waiters;
+        return numbers.usage().waiters;
     }
 
     /**
@@ -679,7 +684,7 @@ public class ZuphinkaPool<T> extends ConfiguredPool<T> implements ObjectPool<T>,
      * @return a number from 0
      */
     public long getBorrowedCount() {
-        return sections.usage().borrowed;
+        return numbers.usage().borrowed;
     }
 
     /**
@@ -688,7 +693,7 @@ public class ZuphinkaPool<T> extends ConfiguredPool<T> implements ObjectPool<T>,
      * @return a number from 0
      */
     public long getReturnedCount() {
-        return sections.usage().returned;
+        return numbers.usage().returned;
     }
 
     /**
@@ -697,7 +702,7 @@ public class ZuphinkaPool<T> extends ConfiguredPool<T> implements ObjectPool<T>,
      * @return a number from 0
      */
     public long getCreatedCount() {
-        return sections.counts().created();
+        return numbers.counts().created();
     }
 
     /**
@@ -706,7 +711,7 @@ public class ZuphinkaPool<T> extends ConfiguredPool<T> implements ObjectPool<T>,
      * @return a number from 0
      */
     public long getDestroyedCount() {
-        Counts counts = sections.counts();
+        Counts counts = numbers.counts();
         return counts.destroyed() + counts.reclaimed();
     }
 
@@ -716,7 +721,7 @@ public class ZuphinkaPool<T> extends ConfiguredPool<T> implements ObjectPool<T>,
      * @return a number from 0
      */
     public long getDestroyedByEvictorCount() {
-        return sections.counts().evicted();
+        return numbers.counts().evicted();
     }
 
     /**
@@ -725,7 +730,7 @@ public class ZuphinkaPool<T> extends ConfiguredPool<T> implements ObjectPool<T>,
      * @return a number from 0
      */
     public long getDestroyedByBorrowValidationCount() {
-        return sections.usage().failedOnBorrow;
+        return numbers.usage().failedOnBorrow;
     }
 
     /**
@@ -734,7 +739,7 @@ public class ZuphinkaPool<T> extends ConfiguredPool<T> implements ObjectPool<T>,
      * @return milliseconds, from 0
      */
     public long getMaxBorrowWaitTimeMillis() {
-        return TimeUnit.NANOSECONDS.toMillis(sections.usage().longestWaitNanos);
+        return TimeUnit.NANOSECONDS.toMillis(numbers.usage().longestWaitNanos);
     }
 
     /**
@@ -743,7 +748,7 @@ public class ZuphinkaPool<T> extends ConfiguredPool<T> implements ObjectPool<T>,
      * @return milliseconds, from 0; 0 if there was no loan
      */
     public long getMeanBorrowWaitTimeMillis() {
-        Usage usage = sections.usage();
+        Usage usage = numbers.usage();
         return usage.borrowed == 0 ? 0 : TimeUnit.NANOSECONDS.toMillis(usage.waitedNanos / usage.borrowed);
     }
 
@@ -768,7 +773,7 @@ public class ZuphinkaPool<T> extends ConfiguredPool<T> implements ObjectPool<T>,
     }
 
     private DefaultPooledObjectInfo infoOf(Member<T> member) {
-        return member.isWrapperTold ? new DefaultPooledObjectInfo(member.pooled) : new MemberInfo(sections, member);
+        return member.isWrapperTold ? new DefaultPooledObjectInfo(member.pooled) : new MemberInfo(numbers, member);
     }
 
     /**
@@ -787,7 +792,7 @@ public class ZuphinkaPool<T> extends ConfiguredPool<T> implements ObjectPool<T>,
      */
     @Override
     public String toString() {
-        Counts counts = sections.counts();
+        Counts counts = numbers.counts();
         String objects = ", lent " + counts.lent() + ", reserved " + counts.reserved() + ", idle " + counts.idle();
         String limits = ", waiting " + getNumWaiters() + ", maxTotal " + getMaxTotal();
         return "ZuphinkaPool[pool " + sections.name() + objects + limits + (isClosed() ? ", closed]" : "]");
@@ -821,7 +826,7 @@ public class ZuphinkaPool<T> extends ConfiguredPool<T> implements ObjectPool<T>,
      * @throws OutOfMemoryError if there is no memory for the text
      */
     public Segment getJournal() {
-        return sections.segment();
+        return storing.segment();
     }
 
     /**
@@ -836,7 +841,7 @@ public class ZuphinkaPool<T> extends ConfiguredPool<T> implements ObjectPool<T>,
      * @throws OutOfMemoryError if there is no memory; then nothing is cut
      */
     public Segment cut() {
-        return sections.cut();
+        return storing.cut();
     }
 
     /**
@@ -847,7 +852,7 @@ public class ZuphinkaPool<T> extends ConfiguredPool<T> implements ObjectPool<T>,
      * @throws StackOverflowError if the thread has too little of its stack left; then nothing is stored
      */
     public void flushJournal() {
-        sections.flushJournal();
+        storing.flushJournal();
     }
 
     /**
@@ -856,7 +861,7 @@ public class ZuphinkaPool<T> extends ConfiguredPool<T> implements ObjectPool<T>,
      * @return the folder that was made for this pool; null if its journal is in none
      */
     public Path getJournalFolder() {
-        return sections.folder();
+        return storing.folder();
     }
 
     /**

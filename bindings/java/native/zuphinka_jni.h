@@ -1,0 +1,73 @@
+/* A pool of io.github.zuphinka.Core: the core, what Java reads and writes beside it, and places for calls in progress. */
+#ifndef ZUPHINKA_JNI_H
+#define ZUPHINKA_JNI_H
+
+#include <jni.h>
+#include <stdatomic.h>
+#include <stdbool.h>
+#include <stddef.h>
+#include <sys/queue.h>
+
+#include "zuphinka.h"
+
+/* How many calls in progress a pool has places for at first, and how many more it gets at a time. */
+enum { PLACES = 32 };
+
+/* What Java reads of the last reply, by the offsets in io.github.zuphinka.Core. It writes the last three fields. */
+struct details {
+  uint64_t object; /* the id of the object that the action is for */
+  uint64_t ticket, until, wake;
+  uint64_t entries;        /* that the journal stores */
+  uint64_t reclaimed;      /* how many objects were reclaimed so far; 0 if none can be */
+  uint64_t progress;       /* the place of the call that began last; 0 if that was over then */
+  uint64_t latest;         /* the greatest time so far, in milliseconds */
+  uint64_t threshold;      /* from how many entries on a reply says so */
+  uint32_t settings;       /* the number of the settings of the moment */
+  _Atomic(uint32_t) lock;  /* whether a thread has the lock */
+};
+
+/* A place for a call in progress. */
+struct place {
+  SLIST_ENTRY(place) others;
+  struct zuphinka_call call;
+};
+
+struct places {
+  SLIST_ENTRY(places) others;
+  struct place all[PLACES];
+};
+
+struct pool {
+  LIST_ENTRY(pool) others;
+  struct zuphinka core;
+  struct details details;
+  jlong needed_stack;
+  bool reclaims;
+  SLIST_HEAD(, place) free;
+  SLIST_HEAD(, places) more;
+  struct places first;
+};
+
+static inline struct pool *pool_at(jlong handle) { return (struct pool *)(intptr_t)handle; }
+
+static inline struct zuphinka *core_at(jlong handle) { return &pool_at(handle)->core; }
+
+/* The flags of a reply. That of a call that is over at once has no other ones, and the token alone besides. */
+enum { HAS_WAKE = 1, HAS_UNTIL = 2, AT_ONCE = 4, HAS_RECLAIMED = 8, IS_LOW = 16 };
+
+/* Stores the numbers that change with each step. Returns the flags that they make. */
+static inline uint64_t note_numbers(struct pool *pool) {
+  struct details *details = &pool->details;
+  uint64_t flags = 0;
+  zuphinka_steps(&pool->core, &details->entries);
+  if (details->entries >= details->threshold) flags |= IS_LOW;
+  if (pool->reclaims) {
+    struct zuphinka_tally counts;
+    zuphinka_counts(&pool->core, &counts);
+    if (counts.reclaimed > details->reclaimed) flags |= HAS_RECLAIMED;
+    details->reclaimed = counts.reclaimed;
+  }
+  return flags;
+}
+
+#endif

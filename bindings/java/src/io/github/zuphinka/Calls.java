@@ -1,0 +1,271 @@
+package io.github.zuphinka;
+
+import java.util.concurrent.locks.LockSupport;
+import org.apache.commons.pool2.DestroyMode;
+
+/** The calls of a pool, each from its beginning to its end: borrows, returns, and others. */
+final class Calls<T> {
+    final TrackedUses<T> uses;
+    private final Sections<T> sections;
+    private final Settling<T> settling;
+    private final Storing<T> storing;
+    private final Room<T> room;
+    private final Work<T> work;
+
+    Calls(Sections<T> sections, Storing<T> storing) {
+        this.sections = sections;
+        this.storing = storing;
+        settling = new Settling<>(sections);
+        room = new Room<>(sections);
+        work = sections.work;
+        uses = new TrackedUses<>(sections, room);
+    }
+
+    /**
+     * Lends an object to a borrow that began at this time of {@link System#nanoTime}. It waits no longer than some nanoseconds, if they are not negative.
+     */
+    Member<T> borrow(long first, long longestNanos) throws Exception {
+        int caller = Callers.number();
+        long moreMillis = longestNanos < 0 ? 0 : CoreSettings.MOST_MILLIS;
+        long limitNanos = longestNanos < 0 ? Long.MAX_VALUE : longestNanos;
+        for (;;) {
+            uses.noteForBorrow(first, longestNanos);
+            Call<T> call;
+            long reply = sections.begin(Core.KIND_BORROW, caller, first, moreMillis, 0, 0);
+            try {
+                sections.see(caller);
+                if (Core.isPlainEnd(reply)) {
+                    return settling.lendAtOnce(reply, first);
+                }
+                call = settling.callOf(reply, caller, first);
+                if (limitNanos < Long.MAX_VALUE) {
+                    call.limitTo(limitNanos, moreMillis);
+                }
+                Member<T> lent = begun(call, reply);
+                if (lent != null) {
+                    return lent;
+                }
+            } finally {
+                sections.release(reply);
+            }
+            Member<T> lent = lentBy(call);
+            if (lent != null) {
+                return lent;
+            }
+            limitNanos = longestNanos < 0 ? sections.settings().maxWaitNanos : longestNanos; // the core counts from now on
+        }
+    }
+
+    /** Takes up a call that has begun. Returns its object as {@link Settling#takeUp} does. */
+    private Member<T> begun(Call<T> call, long reply) {
+        call.progress = sections.details.getLong(Core.PROGRESS);
+        return settling.takeUp(call, reply, call.first);
+    }
+
+    /** Follows a borrow to its end. Returns its object; null if that was taken from it while it destroyed the objects that it took itself. */
+    private Member<T> lentBy(Call<T> call) throws Exception {
+        boolean isLate = call.isDone() && call.reclaimed != null;
+        Member<T> lent = follow(call);
+        if (lent != null) {
+            return lent;
+        }
+        Error error = call.error;
+        if (call.end != Core.END_LENT || error == null) {
+            Ends.check(call);
+        }
+        Member<T> member = call.member;
+        call.leave();
+        if (error != null) {
+            giveBack(member);
+            throw error;
+        }
+        return isLate && !isStillLent(member) ? null : member;
+    }
+
+    /** Returns an object by the settings of the moment. */
+    void giveBack(Member<T> member) {
+        while (!isGivenBack(member, sections.settings())) {
+            // Other settings came between.
+        }
+    }
+
+    /** Returns whether an object is still lent, and then notes a use, if the journal has room for that: its holder only gets it now. */
+    private boolean isStillLent(Member<T> member) {
+        long now = System.nanoTime();
+        return sections.completing(() -> {
+            boolean isLent = member.isLent();
+            if (isLent && Core.use(sections.core, sections.timeOf(now), member.id, Callers.number()) == 0) {
+                member.use(now);
+            }
+            return isLent;
+        });
+    }
+
+    /**
+     * Returns an object, if the pool still has these settings, and returns whether it had. Its wrapper was told before if the return has no work by
+     * them. One that is too old is not tested or passivated, but invalidated, as far as the core knows.
+     */
+    boolean isGivenBack(Member<T> member, CoreSettings<T> of) {
+        int caller = Callers.number();
+        long now = System.nanoTime();
+        int kind = of.isTooOld(member, now) ? Core.KIND_INVALIDATE : Core.KIND_RETURN;
+        Call<T> call;
+        long reply = sections.begin(kind, caller, now, member.id, member.slot, of.number);
+        try {
+            if (reply == Core.OTHER_SETTINGS) {
+                return false;
+            }
+            sections.see(caller);
+            if (Core.isPlainEnd(reply)) {
+                sections.measures.giveBack(member, now);
+                return true;
+            }
+            call = settling.callOf(member, caller, now);
+            if (begun(call, reply) != null) {
+                return true;
+            }
+        } finally {
+            sections.release(reply);
+        }
+        if (follow(call) == null) {
+            Ends.checkUnchecked(call);
+        }
+        return true;
+    }
+
+    /** Makes another call, which is for no object if that is null, and destroys objects in a mode. A second close has no effect. */
+    void make(int kind, Member<T> member, DestroyMode mode) throws Exception {
+        Ends.check(made(kind, member, mode));
+    }
+
+    /** Makes such a call that throws no exception that is checked. */
+    void make(int kind, Member<T> member) {
+        Ends.checkUnchecked(made(kind, member, DestroyMode.NORMAL));
+    }
+
+    private Call<T> made(int kind, Member<T> member, DestroyMode mode) {
+        Call<T> call = new Call<T>().begin(kind, Callers.number(), System.nanoTime(), member);
+        call.mode = mode;
+        sections.take();
+        try {
+            if (kind == Core.KIND_CLOSE && sections.isClosed()) {
+                call.action = Core.ACTION_DONE;
+                return call;
+            }
+            if (kind == Core.KIND_CLOSE) {
+                sections.close();
+            }
+            CoreSettings<T> of = sections.settings();
+            call.settings = of;
+            call.testsOnCreate = of.config.getTestOnCreate();
+            call.testsLeft = kind == Core.KIND_EVICT && of.hasLifetime() ? of.testsOf(sections.journal.latest().idle()) : Long.MAX_VALUE;
+            sections.see(call.caller);
+            begun(call, sections.beginWithin(call));
+        } finally {
+            sections.release();
+        }
+        follow(call);
+        return call;
+    }
+
+    // The course of a call.
+
+    /** Follows a call from its beginning to its end. Returns its object as {@link Settling#takeUp} does. */
+    private Member<T> follow(Call<T> call) {
+        work.settle(call);
+        while (!call.isDone()) {
+            int report = call.isToGiveUp() ? call.giveUp() : act(call);
+            Member<T> member = advance(call, report);
+            if (member != null) {
+                return member;
+            }
+            work.settle(call);
+        }
+        if (call.hasFreed && sections.isEnding()) {
+            storing.storeLast();
+        }
+        return null;
+    }
+
+    /** Does what a call does next. Returns the report. */
+    private int act(Call<T> call) {
+        switch (call.action) {
+            case Core.ACTION_GO_ON:
+                return Core.REPORT_GO_ON;
+            case Core.ACTION_MAKE_ROOM:
+                return room.make(call);
+            case Core.ACTION_SLEEP:
+                return sleep(call);
+            default:
+                return work.act(call);
+        }
+    }
+
+    /** Reports what came of the last action, and takes up what the call does next. Returns its object as {@link Settling#takeUp} does. */
+    private Member<T> advance(Call<T> call, int report) {
+        boolean isLimited = call.untilMillis < Long.MAX_VALUE;
+        int latest = report;
+        long now = System.nanoTime();
+        if (isLimited) {
+            sections.takeAgain();
+            while (latest != Core.REPORT_GIVEN_UP && isEarly(call, now)) {
+                sections.release();
+                latest = waited(call, latest);
+                now = System.nanoTime();
+                sections.takeAgain();
+            }
+        }
+        long reply = sections.advance(call, latest, now, isLimited);
+        try {
+            settling.noteReport(call, latest);
+            return settling.takeUp(call, reply, now);
+        } finally {
+            sections.release(reply);
+        }
+    }
+
+    /** Returns whether the wait of a call is over by the milliseconds of the core, and not yet by the clock: for less than a millisecond. */
+    private boolean isEarly(Call<T> call, long now) {
+        return sections.timeOf(now) >= call.untilMillis && call.left(call.untilNanos) > 0;
+    }
+
+    /** Waits until the time of an early call is over. Returns its report. */
+    private int waited(Call<T> call, int report) {
+        try {
+            LockSupport.parkNanos(call, call.left(call.untilNanos));
+            return report;
+        } catch (Error e) {
+            return stopped(call, e);
+        }
+    }
+
+    /** Sleeps until a call is to look again, or to be given up: also if an error stops its thread. Returns the report. */
+    private int sleep(Call<T> call) {
+        try {
+            return slept(call);
+        } catch (Error e) {
+            return stopped(call, e);
+        }
+    }
+
+    /** Gives a call up whose thread is stopped by an error, as for lack of memory, which it throws at its end. */
+    private static int stopped(Call<?> call, Error error) {
+        call.keepsError(error);
+        return call.giveUp();
+    }
+
+    private int slept(Call<T> call) {
+        if (call.left(call.limitNanos) == 0) {
+            return call.giveUp();
+        }
+        Waiters.sleep(call, Math.min(call.limitNanos, call.untilNanos));
+        if (call.isWoken) {
+            return Core.REPORT_WOKEN;
+        }
+        if (Thread.interrupted()) {
+            call.obstacle = new InterruptedException();
+            return call.giveUp();
+        }
+        return call.left(call.limitNanos) == 0 ? call.giveUp() : Core.REPORT_WOKEN;
+    }
+}

@@ -1,0 +1,53 @@
+package io.github.zuphinka;
+
+/** The numbers of a pool, as its user asks for them, each of one moment. */
+final class Numbers {
+    private final Sections<?> sections;
+    private final StoredJournal journal;
+    private final Measures measures;
+    private final Wakes wakes;
+
+    Numbers(Sections<?> sections) {
+        this.sections = sections;
+        journal = sections.journal;
+        measures = sections.measures;
+        wakes = sections.wakes;
+    }
+
+    /** Returns the counts of the core. */
+    Counts counts() {
+        return sections.locked(journal::counts);
+    }
+
+    /** Returns whether an object still has this loan. */
+    boolean isLent(Member<?> member, long loan) {
+        return sections.locked(() -> member.isLent() && member.loanNumber() == loan);
+    }
+
+    /** Returns the loans of an object. */
+    Loans loansOf(Member<?> member) {
+        return sections.locked(member::loans);
+    }
+
+    /** Returns what the pool counts besides. */
+    Usage usage() {
+        return sections.locked(() -> measures.usage(wakes.waiters.size()));
+    }
+
+    /** Returns the metrics of the pool, with this label. */
+    Metrics metrics(String label) {
+        return new Metrics(sections.locked(() -> measures.snapshot(label, journal.counts(), wakes.waiters.size())));
+    }
+
+    /** Returns how often a thread that waits may be overtaken. */
+    int maxOvertakes() {
+        return sections.locked(wakes::maxOvertakes);
+    }
+
+    void setMaxOvertakes(int times) {
+        sections.locked(() -> {
+            wakes.setMaxOvertakes(times);
+            return null;
+        });
+    }
+}

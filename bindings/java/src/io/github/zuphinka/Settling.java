@@ -1,0 +1,297 @@
+package io.github.zuphinka;
+
+import java.util.concurrent.TimeUnit;
+
+/** What calls do in their sections, after each reply of the core. The caller holds the lock of the pool. */
+final class Settling<T> {
+    private final Sections<T> sections;
+    private final Work<T> work;
+    private final Members<T> members;
+    private final Wakes wakes;
+    private final Measures measures;
+    /** Calls that are over, for the next ones that are for no object. */
+    private Call<T> kept;
+    /** How many objects were reclaimed, of those that are no longer among the members. */
+    private long reclaimed;
+
+    Settling(Sections<T> sections) {
+        this.sections = sections;
+        work = sections.work;
+        members = sections.members;
+        wakes = sections.wakes;
+        measures = sections.measures;
+        kept = new Call<>(); // its classes are initialized, as would fail for good on a full stack
+    }
+
+    // Calls for what has begun.
+
+    /** Notes that a borrow of this time has lent an object at once, and returns it. */
+    Member<T> lendAtOnce(long reply, long first) {
+        return measures.lend(members.at(Core.token(reply)), first, 0);
+    }
+
+    /** Returns the call of a borrow that has begun: that of its object, one that is kept, or a new one. Without memory for that the borrow is given up. */
+    Call<T> callOf(long reply, int caller, long first) {
+        Member<T> member = Core.hasObject(reply) ? members.at(Core.token(reply)) : null;
+        Call<T> call = hasCall(member) ? member.call : takeKept(reply, caller);
+        call.begin(Core.KIND_BORROW, caller, first, member);
+        call.isActivated = !work.activates;
+        call.testsOnCreate = sections.settings().config.getTestOnCreate();
+        return call;
+    }
+
+    /** Returns the call of a return: that of its object, unless another thread returns that, too. */
+    Call<T> callOf(Member<T> member, int caller, long now) {
+        Call<T> call = hasCall(member) ? member.call : new Call<>();
+        return call.begin(Core.KIND_RETURN, caller, now, member);
+    }
+
+    private static boolean hasCall(Member<?> member) {
+        return member != null && member.call != null && !member.call.isTaken;
+    }
+
+    private Call<T> takeKept(long reply, int caller) {
+        Call<T> call = kept == null ? madeFor(reply, caller) : kept;
+        kept = call.nextKept;
+        call.nextKept = null;
+        return call;
+    }
+
+    private Call<T> madeFor(long reply, int caller) {
+        Call<T> call = null;
+        try {
+            call = new Call<>();
+        } finally {
+            if (call == null && Core.action(reply) != Core.ACTION_DONE) {
+                wakes.wakeBy(reply);
+                long progress = sections.details.getLong(Core.PROGRESS);
+                wakes.wakeBy(Core.advance(sections.core, progress, 0, 0, caller, Core.REPORT_GIVEN_UP, true));
+            }
+        }
+        return call;
+    }
+
+    /** Keeps a call that is over for its object, or for any. Returns the object. */
+    private Member<T> keep(Call<T> call) {
+        Member<T> member = call.member;
+        call.leave();
+        if (member.call != call) {
+            call.member = null;
+            call.nextKept = kept;
+            kept = call;
+        }
+        return member;
+    }
+
+    // Reports and replies.
+
+    /** Notes what a report changes. */
+    void noteReport(Call<T> call, int report) {
+        switch (call.action) {
+            case Core.ACTION_MAKE:
+                if (report != Core.REPORT_MADE) {
+                    free(call);
+                }
+                break;
+            case Core.ACTION_VALIDATE:
+                if (call.kind == Core.KIND_BORROW && call.isActivated && report != Core.REPORT_SUCCEEDED) {
+                    measures.failOnBorrow();
+                }
+                call.isActivated |= !work.activates;
+                break;
+            case Core.ACTION_DESTROY:
+                if (report != Core.REPORT_GIVEN_UP) {
+                    free(call);
+                }
+                break;
+            case Core.ACTION_SLEEP:
+                wakes.leave(call);
+                break;
+            default:
+        }
+    }
+
+    /** The place of a call's object is free, unless it was reclaimed before. */
+    private void free(Call<T> call) {
+        if (members.at(call.member.slot) == call.member) {
+            members.remove(call.member);
+        }
+        call.hasFreed = true;
+    }
+
+    /**
+     * Takes up what a call does next. Where there is no memory for that, the call is given up. Returns its object if it is over as it should be: then it is
+     * kept, and another thread may have it soon. Otherwise null.
+     */
+    Member<T> takeUp(Call<T> call, long reply, long now) {
+        if (Core.isPlainEnd(reply) && call.error == null && !call.hasFreed) {
+            return endAtOnce(call, reply, now);
+        }
+        if (Core.isPlainWork(reply) && call.kind != Core.KIND_EVICT) {
+            call.action = Core.action(reply);
+            call.setSettings(sections.settings());
+            takeObject(call, Core.token(reply));
+            noteEndOfLoan(call);
+            return null;
+        }
+        return takeUpAny(call, reply, now);
+    }
+
+    private Member<T> takeUpAny(Call<T> call, long reply, long now) {
+        call.isUnusual = true;
+        try {
+            return takeUpOnce(call, reply, now);
+        } catch (OutOfMemoryError e) {
+            wakes.leave(call);
+            wakes.wakeBy(reply);
+            call.keepsError(e);
+            return takeUpOnce(call, sections.advance(call, call.giveUp(), now, true), now);
+        }
+    }
+
+    private Member<T> takeUpOnce(Call<T> call, long reply, long now) {
+        boolean isAtOnce = Core.isAtOnce(reply);
+        call.action = isAtOnce ? Core.ACTION_DONE : Core.action(reply);
+        call.end = isAtOnce ? call.endAtOnce() : Core.end(reply);
+        if (call.action == Core.ACTION_SLEEP) {
+            limitSleep(call, reply);
+        }
+        if (Core.hasReclaimed(reply)) {
+            takeReclaimed(call);
+        }
+        prepare(call, reply);
+        noteEndOfLoan(call);
+        if (call.isDone()) {
+            noteEnd(call, now);
+        }
+        wakes.limitOvertakes();
+        wakes.wakeBy(reply);
+        return call.isPlain() ? keep(call) : null;
+    }
+
+    /** Does the same for a borrow that has lent its object, or for a return whose object is idle, if nobody is to be woken. */
+    private Member<T> endAtOnce(Call<T> call, long reply, long now) {
+        call.action = Core.ACTION_DONE;
+        call.end = call.endAtOnce();
+        if (call.kind == Core.KIND_BORROW) {
+            takeObject(call, Core.token(reply));
+            measures.lend(call.member, now, now - call.first);
+        } else {
+            noteEndOfLoan(call);
+        }
+        return keep(call);
+    }
+
+    /** Has what the next action needs. */
+    private void prepare(Call<T> call, long reply) {
+        if (call.kind != Core.KIND_EVICT || call.action == work.firstOfTest()) {
+            call.setSettings(sections.settings()); // an idle test ends by those by which it began
+        }
+        switch (call.action) {
+            case Core.ACTION_MAKE_ROOM:
+                call.cuts = sections.journal.cuts();
+                call.isRefused = sections.isClosed() && call.needsOpenPool();
+                break;
+            case Core.ACTION_MAKE:
+                Call<T> ofReturn = new Call<>();
+                call.member = members.add(sections.details.getLong(Core.OBJECT));
+                call.member.call = ofReturn;
+                call.isActivated = !work.activates && !call.testsOnCreate;
+                break;
+            case Core.ACTION_SLEEP:
+                call.ticket.number = sections.details.getLong(Core.TICKET);
+                call.mayPause = Core.busy(sections.core) <= Pauses.PROCESSORS;
+                wakes.waiters.add(call);
+                break;
+            case Core.ACTION_ACTIVATE:
+            case Core.ACTION_VALIDATE:
+            case Core.ACTION_PASSIVATE:
+            case Core.ACTION_DESTROY:
+                takeObject(call, Core.token(reply));
+                call.idle = call.settings.policy != null && call.kind == Core.KIND_EVICT ? sections.journal.latest().idle() : 0;
+                break;
+            default:
+                if (call.end == Core.END_LENT) {
+                    takeObject(call, Core.token(reply));
+                }
+        }
+    }
+
+    /** Has the time at which the wait of a call is over by the settings of the moment. */
+    private void limitSleep(Call<T> call, long reply) {
+        boolean hasUntil = Core.hasUntil(reply);
+        call.untilMillis = hasUntil ? sections.details.getLong(Core.UNTIL) : Long.MAX_VALUE;
+        call.untilNanos = hasUntil ? TimeUnit.MILLISECONDS.toNanos(call.untilMillis - sections.millis(call.first)) : Long.MAX_VALUE;
+    }
+
+    /** Has the object that the next action is for, or that is lent. The one of a return or an invalidation is given. */
+    private void takeObject(Call<T> call, int token) {
+        if (call.kind != Core.KIND_RETURN && call.kind != Core.KIND_INVALIDATE) {
+            Member<T> member = members.at(token);
+            call.isActivated = member == call.member ? call.isActivated : !work.activates;
+            call.setMember(member);
+        }
+    }
+
+    /**
+     * Takes the objects that were reclaimed from their holders by the last steps of a call, which is to destroy them, in the order of their ids. A call
+     * looks on from where it found the last ones: it took those with smaller ids before, except for those that were abandoned only since then.
+     */
+    private void takeReclaimed(Call<T> call) {
+        if (!call.hasReclaimed) {
+            call.hasReclaimed = true;
+            members.search();
+        }
+        long total = sections.details.getLong(Core.RECLAIMED);
+        for (int left = members.size(); left > 0 && reclaimed < total; left--) {
+            Member<T> member = members.nextSought();
+            if (member.isLent() && !Core.isLent(sections.core, member.id)) {
+                member.isGone = true;
+                member.end();
+                members.remove(member);
+                call.reclaim(member);
+                reclaimed++;
+            }
+        }
+    }
+
+    // Ends.
+
+    /** Notes the end of a loan, if the core took the object back. */
+    private void noteEndOfLoan(Call<T> call) {
+        boolean isEnd = call.kind == Core.KIND_RETURN || call.kind == Core.KIND_INVALIDATE;
+        boolean isWork = call.action >= Core.ACTION_ACTIVATE && call.action <= Core.ACTION_DESTROY;
+        if (!isEnd || !call.member.isLent() || !(isWork || call.end == Core.END_PARKED)) {
+            return;
+        }
+        if (call.kind == Core.KIND_RETURN) {
+            measures.giveBack(call.member, call.first);
+        } else {
+            measures.end(call.member, call.first);
+        }
+    }
+
+    /** Notes the end of a call. A closed pool is closed, whatever a call lacks. */
+    private void noteEnd(Call<T> call, long now) {
+        boolean lacks = call.end == Core.END_JOURNAL_FULL || call.end == Core.END_OUT_OF_MEMORY;
+        if (lacks && sections.isClosed() && call.needsOpenPool()) {
+            call.end = Core.END_CLOSED;
+        }
+        if (call.end == Core.END_LENT) {
+            measures.lend(call.member, now, now - call.first);
+        }
+        if (call.end == Core.END_NOTED) {
+            call.member.use(now);
+        }
+        boolean isTimedOut = call.end == Core.END_TIMED_OUT || call.end == Core.END_CANCELLED;
+        if (call.kind == Core.KIND_BORROW && (isTimedOut || call.end == Core.END_EXHAUSTED)) {
+            call.shortage.note(sections.name(), call, sections.journal.latest(), wakes.waiters.size(), sections.settings());
+        }
+        if (call.kind == Core.KIND_BORROW && isTimedOut) {
+            boolean isOther = call.error != null || call.obstacle != null || Thread.currentThread().isInterrupted();
+            if (!isOther) {
+                measures.timeOut();
+            }
+        }
+    }
+}
