@@ -101,7 +101,7 @@ JNIEXPORT jint JNICALL Java_io_github_zuphinka_Core_reconfigure(JNIEnv *env, jcl
   uint32_t status = zuphinka_reconfigure(core_at(handle), text, (size_t)length);
   free(text);
   if (status == ZUPHINKA_STATUS_DONE) pool_at(handle)->reclaims = flags & RECLAIMS;
-  note_numbers(pool_at(handle));
+  look_at_entries(pool_at(handle));
   return -(jint)status;
 }
 
@@ -147,19 +147,24 @@ static bool has_taken(struct details *details) {
          atomic_compare_exchange_strong_explicit(&details->lock, &none, 1, memory_order_acquire, memory_order_relaxed);
 }
 
-/* Stores the details of effects, and returns the reply. */
-static jlong reply(struct pool *pool, const struct zuphinka_effects *effects) {
-  struct details *details = &pool->details;
+/* Stores the details of effects. */
+static void note_details(struct details *details, const struct zuphinka_effects *effects) {
   details->object = effects->number;
   details->ticket = effects->ticket;
   details->until = effects->until;
   details->wake = effects->wake;
+}
+
+/* Returns the reply for effects, and stores their details. Work on an object has none. */
+static inline jlong reply(struct pool *pool, const struct zuphinka_effects *effects) {
+  bool is_work = effects->action >= ZUPHINKA_ACTION_ACTIVATE && effects->action <= ZUPHINKA_ACTION_DESTROY;
   uint64_t flags = note_numbers(pool) | (effects->has_wake ? HAS_WAKE : 0) | (effects->has_until ? HAS_UNTIL : 0);
+  if (!is_work || effects->has_wake) note_details(&pool->details, effects);
   return (jlong)((uint64_t)(uintptr_t)effects->object << 24 | flags << 16 | (uint64_t)effects->end << 8 | effects->action);
 }
 
 /* Returns the reply of a borrow or a return that is over at once, of which the library stores the object alone. */
-static jlong reply_at_once(struct pool *pool, const struct zuphinka_effects *effects) {
+static inline jlong reply_at_once(struct pool *pool, const struct zuphinka_effects *effects) {
   return (jlong)((uint64_t)(uintptr_t)effects->object << 24 | (note_numbers(pool) | AT_ONCE) << 16);
 }
 

@@ -86,6 +86,6 @@ JNIEXPORT jbyteArray JNICALL Java_io_github_zuphinka_Core_part(JNIEnv *env, jcla
 JNIEXPORT jint JNICALL Java_io_github_zuphinka_Core_cut(JNIEnv *env, jclass class, jlong handle) {
   (void)env, (void)class;
   uint32_t status = zuphinka_cut(core_at(handle));
-  note_numbers(pool_at(handle));
+  look_at_entries(pool_at(handle));
   return -(jint)status;
 }

@@ -12,7 +12,7 @@ final class Call<T> {
     long first;
     /** For how many nanoseconds it waits at most, besides what the core says; and by how many milliseconds it may wait longer than the settings say.
      * They are no less than any time of the settings if the limit is its own. */
-    long limitNanos = Long.MAX_VALUE;
+    long limitNanos;
     long moreMillis;
     /** How its object is destroyed. */
     DestroyMode mode = DestroyMode.NORMAL;
@@ -72,7 +72,7 @@ final class Call<T> {
     Call<?> nextTurn;
     /** Whether a thread makes it; otherwise it is kept for the next. The lock of the pool protects it. */
     boolean isTaken;
-    /** Whether it has taken an unusual course, or has a limit of its own, since it was last kept. */
+    /** Whether it has done more than some work on one object since it was last kept. */
     boolean isUnusual;
     /** The next one of those that are kept for any object. */
     Call<T> nextKept;
@@ -82,6 +82,8 @@ final class Call<T> {
         kind = newKind;
         caller = number;
         first = now;
+        limitNanos = Long.MAX_VALUE;
+        moreMillis = 0;
         action = Core.ACTION_GO_ON;
         end = Core.END_NONE;
         setMember(object);
@@ -112,8 +114,6 @@ final class Call<T> {
 
     private void reset() {
         isUnusual = false;
-        limitNanos = Long.MAX_VALUE;
-        moreMillis = 0;
         untilMillis = Long.MAX_VALUE;
         untilNanos = Long.MAX_VALUE;
         mode = DestroyMode.NORMAL;
@@ -167,7 +167,6 @@ final class Call<T> {
     void limitTo(long nanos, long millis) {
         limitNanos = nanos;
         moreMillis = millis;
-        isUnusual = true;
     }
 
     /** Returns for how many nanoseconds a borrow may wait yet for room in the journal, by these settings: as long as for an object. */

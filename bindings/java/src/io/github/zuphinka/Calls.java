@@ -38,10 +38,8 @@ final class Calls<T> {
                     return settling.lendAtOnce(reply, first);
                 }
                 call = settling.callOf(reply, caller, first);
-                if (limitNanos < Long.MAX_VALUE) {
-                    call.limitTo(limitNanos, moreMillis);
-                }
-                Member<T> lent = begun(call, reply);
+                call.limitTo(limitNanos, moreMillis);
+                Member<T> lent = Core.isPlainWork(reply) ? null : settling.takeUp(call, reply, first);
                 if (lent != null) {
                     return lent;
                 }
@@ -54,12 +52,6 @@ final class Calls<T> {
             }
             limitNanos = longestNanos < 0 ? sections.settings().maxWaitNanos : longestNanos; // the core counts from now on
         }
-    }
-
-    /** Takes up a call that has begun. Returns its object as {@link Settling#takeUp} does. */
-    private Member<T> begun(Call<T> call, long reply) {
-        call.progress = sections.details.getLong(Core.PROGRESS);
-        return settling.takeUp(call, reply, call.first);
     }
 
     /** Follows a borrow to its end. Returns its object; null if that was taken from it while it destroyed the objects that it took itself. */
@@ -120,8 +112,8 @@ final class Calls<T> {
                 sections.measures.giveBack(member, now);
                 return true;
             }
-            call = settling.callOf(member, caller, now);
-            if (begun(call, reply) != null) {
+            call = settling.callOf(member, reply, caller, now);
+            if (!Core.isPlainWork(reply) && settling.takeUp(call, reply, now) != null) {
                 return true;
             }
         } finally {
@@ -156,11 +148,12 @@ final class Calls<T> {
                 sections.close();
             }
             CoreSettings<T> of = sections.settings();
-            call.settings = of;
             call.testsOnCreate = of.config.getTestOnCreate();
             call.testsLeft = kind == Core.KIND_EVICT && of.hasLifetime() ? of.testsOf(sections.journal.latest().idle()) : Long.MAX_VALUE;
             sections.see(call.caller);
-            begun(call, sections.beginWithin(call));
+            long reply = sections.beginWithin(call);
+            settling.begin(call, reply);
+            settling.takeUp(call, reply, call.first);
         } finally {
             sections.release();
         }
@@ -172,14 +165,18 @@ final class Calls<T> {
 
     /** Follows a call from its beginning to its end. Returns its object as {@link Settling#takeUp} does. */
     private Member<T> follow(Call<T> call) {
-        work.settle(call);
-        while (!call.isDone()) {
+        for (;;) {
+            if (call.isUnusual) {
+                work.settle(call);
+            }
+            if (call.isDone()) {
+                break;
+            }
             int report = call.isToGiveUp() ? call.giveUp() : act(call);
             Member<T> member = advance(call, report);
             if (member != null) {
                 return member;
             }
-            work.settle(call);
         }
         if (call.hasFreed && sections.isEnding()) {
             storing.storeLast();
@@ -217,8 +214,7 @@ final class Calls<T> {
         }
         long reply = sections.advance(call, latest, now, isLimited);
         try {
-            settling.noteReport(call, latest);
-            return settling.takeUp(call, reply, now);
+            return settling.advance(call, latest, reply, now);
         } finally {
             sections.release(reply);
         }

@@ -83,9 +83,10 @@ final class Core {
     static final int RECLAIMED = 40;
     static final int PROGRESS = 48;
     static final int LATEST = 56;
-    static final int THRESHOLD = 64;
-    static final int SETTINGS = 72;
-    static final int LOCK = 76;
+    static final int TAKEN = 64;
+    static final int THRESHOLD = 72;
+    static final int SETTINGS = 80;
+    static final int LOCK = 84;
     private static final long HAS_WAKE = 1 << 16;
     private static final long HAS_UNTIL = 2 << 16;
     private static final long AT_ONCE = 4 << 16;
@@ -134,7 +135,7 @@ final class Core {
         return code >= ACTION_ACTIVATE && code <= ACTION_PASSIVATE;
     }
 
-    /** Returns whether objects were reclaimed by the last steps. */
+    /** Returns whether more objects were reclaimed than are {@link #TAKEN}. */
     static boolean hasReclaimed(long reply) {
         return (reply & HAS_RECLAIMED) != 0;
     }

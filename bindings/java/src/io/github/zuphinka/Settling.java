@@ -11,8 +11,6 @@ final class Settling<T> {
     private final Measures measures;
     /** Calls that are over, for the next ones that are for no object. */
     private Call<T> kept;
-    /** How many objects were reclaimed, of those that are no longer among the members. */
-    private long reclaimed;
 
     Settling(Sections<T> sections) {
         this.sections = sections;
@@ -30,20 +28,34 @@ final class Settling<T> {
         return measures.lend(members.at(Core.token(reply)), first, 0);
     }
 
-    /** Returns the call of a borrow that has begun: that of its object, one that is kept, or a new one. Without memory for that the borrow is given up. */
+    /**
+     * Returns the call of a borrow that has begun: that of its object, one that is kept, or a new one. Without memory for that the borrow is given up. Where
+     * the factory is to work on an idle object, the call is ready for that.
+     */
     Call<T> callOf(long reply, int caller, long first) {
         Member<T> member = Core.hasObject(reply) ? members.at(Core.token(reply)) : null;
         Call<T> call = hasCall(member) ? member.call : takeKept(reply, caller);
-        call.begin(Core.KIND_BORROW, caller, first, member);
+        begin(call.begin(Core.KIND_BORROW, caller, first, member), reply);
         call.isActivated = !work.activates;
-        call.testsOnCreate = sections.settings().config.getTestOnCreate();
+        call.testsOnCreate = call.settings.config.getTestOnCreate();
         return call;
     }
 
-    /** Returns the call of a return: that of its object, unless another thread returns that, too. */
-    Call<T> callOf(Member<T> member, int caller, long now) {
+    /** Returns the call of a return in the same way: that of its object, unless another thread returns that, too. */
+    Call<T> callOf(Member<T> member, long reply, int caller, long now) {
         Call<T> call = hasCall(member) ? member.call : new Call<>();
-        return call.begin(Core.KIND_RETURN, caller, now, member);
+        begin(call.begin(Core.KIND_RETURN, caller, now, member), reply);
+        if (Core.isPlainWork(reply)) {
+            measures.giveBack(member, now);
+        }
+        return call;
+    }
+
+    /** Begins a call that has this reply. */
+    void begin(Call<T> call, long reply) {
+        call.progress = sections.details.getLong(Core.PROGRESS);
+        call.action = Core.action(reply);
+        call.setSettings(sections.settings());
     }
 
     private static boolean hasCall(Member<?> member) {
@@ -85,8 +97,22 @@ final class Settling<T> {
 
     // Reports and replies.
 
+    /** Takes up what a call does next after a report. Returns its object as {@link #takeUp} does. */
+    Member<T> advance(Call<T> call, int report, long reply, long now) {
+        boolean isUsual = !call.isUnusual;
+        if (isUsual && Core.isPlainEnd(reply)) {
+            return endAtOnce(call, now);
+        }
+        noteReport(call, report);
+        if (isUsual && Core.isPlainWork(reply)) {
+            call.action = Core.action(reply);
+            return null;
+        }
+        return takeUp(call, reply, now);
+    }
+
     /** Notes what a report changes. */
-    void noteReport(Call<T> call, int report) {
+    private void noteReport(Call<T> call, int report) {
         switch (call.action) {
             case Core.ACTION_MAKE:
                 if (report != Core.REPORT_MADE) {
@@ -124,20 +150,6 @@ final class Settling<T> {
      * kept, and another thread may have it soon. Otherwise null.
      */
     Member<T> takeUp(Call<T> call, long reply, long now) {
-        if (Core.isPlainEnd(reply) && call.error == null && !call.hasFreed) {
-            return endAtOnce(call, reply, now);
-        }
-        if (Core.isPlainWork(reply) && call.kind != Core.KIND_EVICT) {
-            call.action = Core.action(reply);
-            call.setSettings(sections.settings());
-            takeObject(call, Core.token(reply));
-            noteEndOfLoan(call);
-            return null;
-        }
-        return takeUpAny(call, reply, now);
-    }
-
-    private Member<T> takeUpAny(Call<T> call, long reply, long now) {
         call.isUnusual = true;
         try {
             return takeUpOnce(call, reply, now);
@@ -164,20 +176,14 @@ final class Settling<T> {
         if (call.isDone()) {
             noteEnd(call, now);
         }
-        wakes.limitOvertakes();
         wakes.wakeBy(reply);
         return call.isPlain() ? keep(call) : null;
     }
 
-    /** Does the same for a borrow that has lent its object, or for a return whose object is idle, if nobody is to be woken. */
-    private Member<T> endAtOnce(Call<T> call, long reply, long now) {
-        call.action = Core.ACTION_DONE;
-        call.end = call.endAtOnce();
+    /** Ends a call at once that has worked on one object alone. Returns that: it is lent, or idle. */
+    Member<T> endAtOnce(Call<T> call, long now) {
         if (call.kind == Core.KIND_BORROW) {
-            takeObject(call, Core.token(reply));
             measures.lend(call.member, now, now - call.first);
-        } else {
-            noteEndOfLoan(call);
         }
         return keep(call);
     }
@@ -243,16 +249,18 @@ final class Settling<T> {
             members.search();
         }
         long total = sections.details.getLong(Core.RECLAIMED);
-        for (int left = members.size(); left > 0 && reclaimed < total; left--) {
+        long taken = sections.details.getLong(Core.TAKEN);
+        for (int left = members.size(); left > 0 && taken < total; left--) {
             Member<T> member = members.nextSought();
             if (member.isLent() && !Core.isLent(sections.core, member.id)) {
                 member.isGone = true;
                 member.end();
                 members.remove(member);
                 call.reclaim(member);
-                reclaimed++;
+                taken++;
             }
         }
+        sections.details.putLong(Core.TAKEN, taken);
     }
 
     // Ends.

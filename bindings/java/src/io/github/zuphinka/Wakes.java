@@ -32,13 +32,6 @@ final class Wakes {
         overtakes = Core.setOvertakes(core, times);
     }
 
-    /** Asks for the bound on overtakes again that was greater than it is to be, since a waiter may have left. */
-    void limitOvertakes() {
-        if (overtakes != maxOvertakes) {
-            setMaxOvertakes(maxOvertakes);
-        }
-    }
-
     boolean hasWoken() {
         return woken != null;
     }
@@ -50,9 +43,12 @@ final class Wakes {
         return next;
     }
 
-    /** A call sleeps no more, if it did. Wakes the one whose turn has come by that. */
+    /** A call sleeps no more, if it did. Wakes the one whose turn has come by that, and asks for the bound on overtakes again, if it was too great. */
     void leave(Call<?> call) {
         unpark(waiters.remove(call));
+        if (overtakes != maxOvertakes) {
+            setMaxOvertakes(maxOvertakes);
+        }
     }
 
     /** Wakes the calls that a reply names. */
