@@ -4,28 +4,33 @@ import java.lang.invoke.MethodHandles;
 import java.lang.invoke.VarHandle;
 import java.nio.ByteBuffer;
 import java.nio.ByteOrder;
+import java.util.concurrent.atomic.AtomicReference;
 import java.util.concurrent.locks.LockSupport;
+import java.util.concurrent.locks.ReentrantLock;
 import java.util.function.BooleanSupplier;
 
 /**
- * The lock of a pool: a word in the memory of its core, so that a native method may take it, too. No thread that has it takes it again. Neither to take
- * it nor to free it needs memory.
+ * The lock of a pool: a word in the memory of its core, so that a native method may take it, too. No thread that has it takes it again. It can be taken
+ * without memory.
  */
 final class PoolLock {
     private static final VarHandle WORD = MethodHandles.byteBufferViewVarHandle(int[].class, ByteOrder.nativeOrder());
-    /** For how long a thread sleeps that has paused before it looks again: at first, and at most, in nanoseconds. */
-    private static final long SHORTEST_SLEEP = 50_000;
+    /** For how many nanoseconds a thread sleeps at most before it looks again: it may miss its wake. */
     private static final long LONGEST_SLEEP = 1_000_000;
-
-    static {
-        LockSupport.unpark(null); // the class is loaded then, which needs memory
-    }
 
     private final ByteBuffer details;
     private final BooleanSupplier isTaken = () -> !hasTaken();
+    /** Threads that have paused in vain wait here, until they are the one that sleeps. */
+    private final ReentrantLock queue = new ReentrantLock();
+    /** The one that is to be woken when the lock is free; null if there is none, or that was done. */
+    private final AtomicReference<Thread> sleeper = new AtomicReference<>();
 
     PoolLock(ByteBuffer details) {
         this.details = details;
+        // What these calls load is there then, and needs no memory later.
+        sleeper.set(null);
+        sleeper.compareAndSet(null, null);
+        LockSupport.unpark(null);
     }
 
     /** Takes it if no thread has it, and returns whether it did. */
@@ -44,17 +49,48 @@ final class PoolLock {
         if (Pauses.isOverAfter(isTaken, Long.MAX_VALUE)) {
             return;
         }
-        boolean isInterrupted = false;
-        for (long sleep = SHORTEST_SLEEP; !hasTaken(); sleep = Math.min(2 * sleep, LONGEST_SLEEP)) {
-            LockSupport.parkNanos(sleep);
-            isInterrupted |= Thread.interrupted(); // it would not sleep again
-        }
-        if (isInterrupted) {
-            Thread.currentThread().interrupt();
+        boolean isQueued = hasQueued();
+        sleepUntilTaken(isQueued);
+        if (isQueued) {
+            queue.unlock();
         }
     }
 
+    /** Queues for the sleep, and returns true once that has come; or false on a full heap. */
+    private boolean hasQueued() {
+        try {
+            queue.lock();
+            return true;
+        } catch (OutOfMemoryError e) {
+            return false;
+        }
+    }
+
+    private void sleepUntilTaken(boolean isQueued) {
+        Thread thread = Thread.currentThread();
+        boolean isInterrupted = false;
+        for (;;) {
+            if (isQueued) {
+                sleeper.set(thread);
+            }
+            if (hasTaken()) {
+                break;
+            }
+            LockSupport.parkNanos(LONGEST_SLEEP);
+            isInterrupted |= Thread.interrupted(); // it would not sleep again
+        }
+        sleeper.compareAndSet(thread, null);
+        if (isInterrupted) {
+            thread.interrupt();
+        }
+    }
+
+    /** Frees it, and wakes the thread that sleeps. */
     void free() {
         WORD.setRelease(details, Core.LOCK, 0);
+        Thread next = sleeper.get();
+        if (next != null && sleeper.compareAndSet(next, null)) {
+            LockSupport.unpark(next);
+        }
     }
 }
