@@ -13,6 +13,9 @@
 /* The most entries that a call makes by one report. */
 enum { MOST_ENTRIES = 64 };
 
+/* The bytes of a cache line. */
+enum { LINE = 64 };
+
 /* How many calls in progress a pool has places for at first, and how many more it gets at a time. */
 enum { PLACES = 32 };
 
@@ -27,7 +30,9 @@ struct details {
   uint64_t taken;          /* of how many reclaimed objects Java knows */
   uint64_t threshold;      /* from how many entries on a reply says so */
   uint32_t settings;       /* the number of the settings of the moment */
+  char before[LINE];       /* threads that look at the lock do not slow down the one that writes the rest */
   _Atomic(uint32_t) lock;  /* whether a thread has the lock */
+  char after[LINE];
 };
 
 /* A place for a call in progress. */

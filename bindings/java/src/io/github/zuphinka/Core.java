@@ -86,7 +86,7 @@ final class Core {
     static final int TAKEN = 64;
     static final int THRESHOLD = 72;
     static final int SETTINGS = 80;
-    static final int LOCK = 84;
+    static final int LOCK = 148;
     private static final long HAS_WAKE = 1 << 16;
     private static final long HAS_UNTIL = 2 << 16;
     private static final long AT_ONCE = 4 << 16;

@@ -19,7 +19,7 @@ final class PoolLock {
     private static final long LONGEST_SLEEP = 1_000_000;
 
     private final ByteBuffer details;
-    private final BooleanSupplier isTaken = () -> !hasTaken();
+    private final BooleanSupplier isHeld = () -> !hasTaken();
     /** Threads that have paused in vain wait here, until they are the one that sleeps. */
     private final ReentrantLock queue = new ReentrantLock();
     /** The one that is to be woken when the lock is free; null if there is none, or that was done. */
@@ -46,7 +46,7 @@ final class PoolLock {
 
     /** Takes it once it is free. It is held for a fraction of a microsecond, while it takes some to wake a thread: so a thread pauses before it sleeps. */
     void takeLater() {
-        if (Pauses.isOverAfter(isTaken, Long.MAX_VALUE)) {
+        if (Pauses.isTakenMeanwhile(isHeld)) {
             return;
         }
         boolean isQueued = hasQueued();

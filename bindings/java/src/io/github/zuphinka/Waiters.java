@@ -103,7 +103,7 @@ final class Waiters {
     /** Sleeps without the lock until a call is woken, its thread is interrupted, or it is this old in nanoseconds. Before that it may pause. */
     static void sleep(Call<?> call, long nanos) {
         if (call.mayPause) {
-            Pauses.isOverAfter(call.isAsleep, call.left(nanos));
+            Pauses.pauseWhile(call.isAsleep, call.left(nanos));
         }
         for (long left = call.left(nanos); !call.isWoken && left > 0; left = call.left(nanos)) {
             if (Thread.currentThread().isInterrupted()) {
