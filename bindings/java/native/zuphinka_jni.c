@@ -191,12 +191,14 @@ JNIEXPORT jlong JNICALL Java_io_github_zuphinka_Core_begin(JNIEnv *env, jclass c
                                  .kind = (uint32_t)kind};
   struct zuphinka_effects effects;
   struct place *place = SLIST_FIRST(&pool->free);
+  details->progress = 0;
   uint32_t status = zuphinka_begin(&pool->core, &start, &place->call, &effects);
   if (status == ZUPHINKA_STATUS_AT_ONCE) return reply_at_once(pool, &effects);
   if (status != ZUPHINKA_STATUS_DONE) return -(jlong)status;
-  bool is_over = effects.action == ZUPHINKA_ACTION_DONE;
-  details->progress = is_over ? 0 : (uint64_t)(uintptr_t)place;
-  if (!is_over) SLIST_REMOVE_HEAD(&pool->free, others);
+  if (effects.action != ZUPHINKA_ACTION_DONE) {
+    SLIST_REMOVE_HEAD(&pool->free, others);
+    details->progress = (uint64_t)(uintptr_t)place;
+  }
   return reply(pool, &effects);
 }
 

@@ -92,7 +92,7 @@ final class Leaks<T> {
             long nanos = lender == null ? 0 : System.nanoTime() - lender.lentAt;
             if (nanos > limit && !lender.isTold && numbers.isLent(member, lender.loan)) {
                 lender.isTold = true;
-                tell(new Leak(sections.name(), member.id, lender, Duration.ofNanos(nanos)));
+                tell(new Leak(sections.name, member.id, lender, Duration.ofNanos(nanos)));
             }
         }
     }

@@ -24,7 +24,7 @@ final class Sections<T> {
     /** Stores the entries from time to time; null if nothing does. It does not change once the pool is made. */
     private volatile Flusher flusher;
     /** What tells the pool from others in messages. */
-    private volatile String name = "";
+    volatile String name = "";
     final long start = System.nanoTime();
     private final long neededStack;
     /** Where segments are stored; null if none are. */
@@ -73,14 +73,6 @@ final class Sections<T> {
     void startFlusher(Flusher made) {
         flusher = made;
         made.start();
-    }
-
-    void setName(String given) {
-        name = given;
-    }
-
-    String name() {
-        return name;
     }
 
     // The lock.

@@ -21,8 +21,6 @@ final class Settling<T> {
         kept = new Call<>(); // its classes are initialized, as would fail for good on a full stack
     }
 
-    // Calls for what has begun.
-
     /** Notes that a borrow of this time has lent an object at once, and returns it. */
     Member<T> lendAtOnce(long reply, long first) {
         return measures.lend(members.at(Core.token(reply)), first, 0);
@@ -63,24 +61,23 @@ final class Settling<T> {
     }
 
     private Call<T> takeKept(long reply, int caller) {
-        Call<T> call = kept == null ? madeFor(reply, caller) : kept;
+        Call<T> call = kept == null ? madeFor(caller, reply) : kept;
         kept = call.nextKept;
         call.nextKept = null;
         return call;
     }
 
-    private Call<T> madeFor(long reply, int caller) {
-        Call<T> call = null;
+    private Call<T> madeFor(int caller, long reply) {
         try {
-            call = new Call<>();
-        } finally {
-            if (call == null && Core.action(reply) != Core.ACTION_DONE) {
-                wakes.wakeBy(reply);
-                long progress = sections.details.getLong(Core.PROGRESS);
+            return new Call<>();
+        } catch (OutOfMemoryError e) {
+            long progress = sections.details.getLong(Core.PROGRESS);
+            wakes.wakeBy(reply);
+            if (progress != 0) {
                 wakes.wakeBy(Core.advance(sections.core, progress, 0, 0, caller, Core.REPORT_GIVEN_UP, true));
             }
+            throw e;
         }
-        return call;
     }
 
     /** Keeps a call that is over for its object, or for any. Returns the object. */
@@ -263,8 +260,6 @@ final class Settling<T> {
         sections.details.putLong(Core.TAKEN, taken);
     }
 
-    // Ends.
-
     /** Notes the end of a loan, if the core took the object back. */
     private void noteEndOfLoan(Call<T> call) {
         boolean isEnd = call.kind == Core.KIND_RETURN || call.kind == Core.KIND_INVALIDATE;
@@ -293,13 +288,11 @@ final class Settling<T> {
         }
         boolean isTimedOut = call.end == Core.END_TIMED_OUT || call.end == Core.END_CANCELLED;
         if (call.kind == Core.KIND_BORROW && (isTimedOut || call.end == Core.END_EXHAUSTED)) {
-            call.shortage.note(sections.name(), call, sections.journal.latest(), wakes.waiters.size(), sections.settings());
+            call.shortage.note(sections.name, call, sections.journal.latest(), wakes.waiters.size(), sections.settings());
         }
-        if (call.kind == Core.KIND_BORROW && isTimedOut) {
-            boolean isOther = call.error != null || call.obstacle != null || Thread.currentThread().isInterrupted();
-            if (!isOther) {
-                measures.timeOut();
-            }
+        boolean isOther = call.error != null || call.obstacle != null || Thread.currentThread().isInterrupted();
+        if (call.kind == Core.KIND_BORROW && isTimedOut && !isOther) {
+            measures.timeOut();
         }
     }
 }

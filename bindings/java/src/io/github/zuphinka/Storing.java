@@ -80,12 +80,10 @@ final class Storing<T> {
     }
 
     private void cutRest() {
-        sections.takeAgain();
-        try {
+        sections.completing(() -> {
             journal.cutRest();
-        } finally {
-            sections.release();
-        }
+            return null;
+        });
     }
 
     /** Does the same for a call that is not to fail, unless another thread stores for longer than some nanoseconds. */

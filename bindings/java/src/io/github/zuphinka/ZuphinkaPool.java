@@ -136,7 +136,7 @@ public class ZuphinkaPool<T> extends ConfiguredPool<T> implements ObjectPool<T>,
         try {
             beanName = config.getJmxEnabled() ? PoolBean.register(this, config, factory.getClass().getName()) : null;
             isRegistered.set(beanName != null);
-            sections.setName(nameOf(beanName, config, factory));
+            sections.name = nameOf(beanName, config, factory);
             startMaintenance();
             storing.startFlusher(journal, context);
         } catch (Throwable e) {
@@ -795,7 +795,7 @@ public class ZuphinkaPool<T> extends ConfiguredPool<T> implements ObjectPool<T>,
         Counts counts = numbers.counts();
         String objects = ", lent " + counts.lent() + ", reserved " + counts.reserved() + ", idle " + counts.idle();
         String limits = ", waiting " + getNumWaiters() + ", maxTotal " + getMaxTotal();
-        return "ZuphinkaPool[pool " + sections.name() + objects + limits + (isClosed() ? ", closed]" : "]");
+        return "ZuphinkaPool[pool " + sections.name + objects + limits + (isClosed() ? ", closed]" : "]");
     }
 
     // The journal.
