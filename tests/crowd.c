@@ -46,8 +46,8 @@ static void check(bool holds, const char *what) {
 
 /* Checks that a call has lent the object. Returns its id. */
 static uint64_t lent(uint32_t status, const struct zuphinka_effects *effects) {
-  bool is_done = status == ZUPHINKA_STATUS_DONE && effects->action == ZUPHINKA_ACTION_DONE && effects->end == ZUPHINKA_END_LENT && !effects->has_ticket;
-  check(is_done || status == ZUPHINKA_STATUS_AT_ONCE, "a borrow has no object, or waits");
+  bool is_done = status == ZUPHINKA_STATUS_DONE && effects->action == ZUPHINKA_ACTION_DONE && !effects->has_ticket;
+  check((is_done || status == ZUPHINKA_STATUS_AT_ONCE) && effects->end == ZUPHINKA_END_LENT, "a borrow has no object, or waits");
   check(effects->object == &object, "a borrow has another object");
   return effects->number;
 }

@@ -2750,21 +2750,50 @@ static struct told line_at(struct zuphinka *pool, uint64_t position) {
   return line;
 }
 
-/* No idle object is taken, and no lent one is checked. */
-static void refuse_by_halves(struct zuphinka *pool, uint32_t status, struct zuphinka_loan *loan) {
-  const struct zuphinka_loan before = *loan;
-  check(zuphinka_take(pool, 3, 9, loan) == status && loan->id == before.id && loan->object == before.object);
-  check(zuphinka_check(pool, 3, 9, loan->id) == status);
+/* The object of a loan. */
+struct object {
+  uint64_t id;
+  void *token;
+};
+
+/* Borrows as a caller at a time, and lends an idle object at once. */
+static struct object lend_at_once(struct zuphinka *pool, uint32_t caller, uint64_t at) {
+  const struct zuphinka_start start = {.kind = ZUPHINKA_KIND_BORROW, .caller = caller, .at = at};
+  struct zuphinka_call call;
+  struct zuphinka_effects effects;
+  check(zuphinka_begin(pool, &start, &call, &effects) == ZUPHINKA_STATUS_AT_ONCE && effects.end == ZUPHINKA_END_LENT);
+  return (struct object){effects.number, effects.object};
 }
 
-/* No loan begins or ends at once; nothing changes. */
-static void refuse_at_once(struct zuphinka *pool, uint32_t status, uint64_t id) {
-  struct zuphinka_loan loan = {id, &maker};
-  struct told before = tell(pool);
-  check(zuphinka_lend(pool, 3, 9, &loan) == status && loan.id == id && loan.object == &maker);
-  check(zuphinka_take_back(pool, 3, 9, &loan) == status);
-  refuse_by_halves(pool, status, &loan);
-  check_text(tell(pool).text, before.text);
+/* Begins the return of an object by a caller at a time. */
+static uint32_t begin_return(struct zuphinka *pool, uint32_t caller, uint64_t at, struct object object, struct zuphinka_call *call,
+                             struct zuphinka_effects *effects) {
+  const struct zuphinka_start start = {
+      .kind = ZUPHINKA_KIND_RETURN, .caller = caller, .at = at, .id = object.id, .object = object.token};
+  return zuphinka_begin(pool, &start, call, effects);
+}
+
+/* Returns an object that is idle at once; calls may wait for it. */
+static void take_back(struct zuphinka *pool, uint32_t caller, uint64_t at, struct object object) {
+  struct zuphinka_call call;
+  struct zuphinka_effects effects;
+  uint32_t status = begin_return(pool, caller, at, object, &call, &effects);
+  check(status == ZUPHINKA_STATUS_AT_ONCE || (status == ZUPHINKA_STATUS_DONE && effects.has_wake));
+  check(effects.end == ZUPHINKA_END_PARKED);
+}
+
+/* A borrow begins, and sleeps. Returns its ticket. */
+static uint64_t sleeps(struct zuphinka *pool, struct zuphinka_call *call) {
+  struct zuphinka_effects effects;
+  check(begin(pool, ZUPHINKA_KIND_BORROW, call, &effects) == ZUPHINKA_STATUS_DONE && effects.action == ZUPHINKA_ACTION_SLEEP);
+  return effects.ticket;
+}
+
+/* A call that sleeps is woken, and does this then. */
+static void wakes_to(struct zuphinka *pool, struct zuphinka_call *call, uint32_t action) {
+  struct zuphinka_effects effects;
+  check(advance(pool, call, ZUPHINKA_REPORT_WOKEN, &effects) == ZUPHINKA_STATUS_DONE && effects.action == action);
+  check(action != ZUPHINKA_ACTION_DONE || effects.end == ZUPHINKA_END_LENT);
 }
 
 /* A loan and its end take one call of the library each while the host has nothing to do and no call waits. */
@@ -2773,26 +2802,18 @@ static void test_loans_at_once(void) {
   struct zuphinka pool = {.at = NULL};
   struct zuphinka_call call;
   struct zuphinka_effects effects;
-  struct zuphinka_loan loan = {0, &token};
-  refuse_at_once(&pool, ZUPHINKA_STATUS_NOT_OPEN, 7);
   check(zuphinka_open(&pool, "maxTotal = 1\n", 13) == ZUPHINKA_STATUS_DONE);
-  refuse_at_once(&pool, ZUPHINKA_STATUS_NOT_AT_ONCE, 0);
-  check(begin(&pool, ZUPHINKA_KIND_BORROW, &call, &effects) == ZUPHINKA_STATUS_DONE);
+  check(begin(&pool, ZUPHINKA_KIND_BORROW, &call, &effects) == ZUPHINKA_STATUS_DONE && effects.action == ZUPHINKA_ACTION_MAKE);
   check(advance(&pool, &call, ZUPHINKA_REPORT_MADE, &effects) == ZUPHINKA_STATUS_DONE && effects.end == ZUPHINKA_END_LENT);
-  refuse_at_once(&pool, ZUPHINKA_STATUS_NOT_AT_ONCE, 7);
-  check(zuphinka_take_back(&pool, 1, 5, &loan) == ZUPHINKA_STATUS_DONE);
-  loan = (struct zuphinka_loan){7, NULL};
-  check(zuphinka_lend(&pool, 2, 6, &loan) == ZUPHINKA_STATUS_DONE && loan.id == 0 && loan.object == &token);
+  take_back(&pool, 1, 5, (struct object){0, &token});
+  struct object lent = lend_at_once(&pool, 2, 6);
+  check(lent.id == 0 && lent.token == &token);
   check_text(line_at(&pool, 2).text, "1 5 return 0 = check");
   check_text(line_at(&pool, 3).text, "1 5 park 0 good = parked");
   check_text(line_at(&pool, 4).text, "2 6 borrow 6 = take 0");
   check_text(line_at(&pool, 5).text, "2 6 ready 0 good = lent");
-  check(begin(&pool, ZUPHINKA_KIND_BORROW, &call, &effects) == ZUPHINKA_STATUS_DONE && effects.action == ZUPHINKA_ACTION_SLEEP);
-  uint64_t ticket = effects.ticket + 1;
-  check(zuphinka_take_back(&pool, 2, 7, &loan) == ZUPHINKA_STATUS_DONE);
-  refuse_at_once(&pool, ZUPHINKA_STATUS_NOT_AT_ONCE, 0);
-  check(zuphinka_next_wake(&pool, &ticket) == ZUPHINKA_STATUS_DONE && ticket == effects.ticket);
-  check(advance(&pool, &call, ZUPHINKA_REPORT_WOKEN, &effects) == ZUPHINKA_STATUS_DONE && effects.end == ZUPHINKA_END_LENT);
+  uint64_t ticket = sleeps(&pool, &call);
+  check(begin_return(&pool, 2, 7, lent, &call, &effects) == ZUPHINKA_STATUS_DONE && effects.has_wake && effects.wake == ticket);
   zuphinka_drop(&pool);
 }
 
@@ -2807,35 +2828,33 @@ static struct zuphinka open_core_lent(const char *settings, const struct zuphink
   while (status == ZUPHINKA_STATUS_DONE && effects.action != ZUPHINKA_ACTION_DONE) {
     status = advance(&pool, &call, ZUPHINKA_REPORT_SUCCEEDED, &effects);
   }
-  check(status == ZUPHINKA_STATUS_AT_ONCE || (status == ZUPHINKA_STATUS_DONE && effects.end == ZUPHINKA_END_LENT));
+  check(status == ZUPHINKA_STATUS_AT_ONCE || status == ZUPHINKA_STATUS_DONE);
+  check(effects.end == ZUPHINKA_END_LENT);
   return pool;
 }
 
 /* Once a call was woken and found nothing, nothing is lent at once until one that waits has left. */
 static void test_nothing_at_once_after_a_vain_wake(void) {
   const struct zuphinka_options options = {.max_overtakes = 16};
+  const struct object object = {0, &maker};
   struct zuphinka pool = open_core_lent("maxTotal = 1\n", &options);
-  struct zuphinka_call call;
+  struct zuphinka_call call, late;
   struct zuphinka_effects effects;
-  struct zuphinka_loan loan = {0, &maker};
-  uint64_t ticket;
-  check(begin(&pool, ZUPHINKA_KIND_BORROW, &call, &effects) == ZUPHINKA_STATUS_DONE && effects.action == ZUPHINKA_ACTION_SLEEP);
-  check(zuphinka_take_back(&pool, 0, 0, &loan) == ZUPHINKA_STATUS_DONE);
-  check(zuphinka_next_wake(&pool, &ticket) == ZUPHINKA_STATUS_DONE && ticket == effects.ticket);
-  check(zuphinka_lend(&pool, 0, 0, &loan) == ZUPHINKA_STATUS_DONE && loan.object == &maker);
-  check(zuphinka_next_wake(&pool, &ticket) == ZUPHINKA_STATUS_NO_WAKE);
-  check(advance(&pool, &call, ZUPHINKA_REPORT_WOKEN, &effects) == ZUPHINKA_STATUS_DONE && effects.action == ZUPHINKA_ACTION_SLEEP);
-  check(zuphinka_take_back(&pool, 0, 0, &loan) == ZUPHINKA_STATUS_DONE);
-  check(zuphinka_next_wake(&pool, &ticket) == ZUPHINKA_STATUS_DONE && ticket == effects.ticket);
-  refuse_at_once(&pool, ZUPHINKA_STATUS_NOT_AT_ONCE, 0);
-  check(advance(&pool, &call, ZUPHINKA_REPORT_WOKEN, &effects) == ZUPHINKA_STATUS_DONE && effects.end == ZUPHINKA_END_LENT);
-  check(zuphinka_take_back(&pool, 0, 0, &loan) == ZUPHINKA_STATUS_DONE);
-  check(zuphinka_lend(&pool, 0, 0, &loan) == ZUPHINKA_STATUS_DONE);
+  sleeps(&pool, &call);
+  take_back(&pool, 0, 0, object);
+  check(lend_at_once(&pool, 0, 0).token == &maker);
+  wakes_to(&pool, &call, ZUPHINKA_ACTION_SLEEP);
+  take_back(&pool, 0, 0, object);
+  sleeps(&pool, &late);
+  wakes_to(&pool, &call, ZUPHINKA_ACTION_DONE);
+  check(advance(&pool, &late, ZUPHINKA_REPORT_GIVEN_UP, &effects) == ZUPHINKA_STATUS_DONE);
+  take_back(&pool, 0, 0, object);
+  lend_at_once(&pool, 0, 0);
   zuphinka_drop(&pool);
 }
 
-/* What takes more than its two steps, or asks the host, is for a call: a return that does not come back at once, or a borrow of what has. */
-static void test_what_is_begun(void) {
+/* A loan or its end that asks the host, or takes other steps, is not over at once. */
+static void test_what_is_not_over_at_once(void) {
   static const struct {
     const char *settings;
     bool validates, is_closed, comes_back;
@@ -2843,19 +2862,17 @@ static void test_what_is_begun(void) {
       {"maxIdle = 0\n", false, false, false},
       {"testOnReturn = true\n", true, false, false},
       {"maxIdle = 8\n", false, true, false},
-      {"journalLimit = 8\n", false, false, false},
       {"testOnBorrow = true\n", true, false, true},
-      {"[abandoned]\nremoveAbandonedOnBorrow = true\n", false, false, true},
   };
   for (size_t n = 0; n < sizeof rows / sizeof *rows; n++) {
     const struct zuphinka_options options = {.validates = rows[n].validates};
     struct zuphinka pool = open_core_lent(rows[n].settings, &options);
     struct zuphinka_call call;
     struct zuphinka_effects effects;
-    struct zuphinka_loan loan = {0, &maker}, taken = {9, NULL};
     if (rows[n].is_closed) check(begin(&pool, ZUPHINKA_KIND_CLOSE, &call, &effects) == ZUPHINKA_STATUS_DONE);
-    check(zuphinka_take_back(&pool, 0, 1, &loan) == (rows[n].comes_back ? ZUPHINKA_STATUS_DONE : ZUPHINKA_STATUS_NOT_AT_ONCE));
-    check(zuphinka_lend(&pool, 0, 1, &taken) == ZUPHINKA_STATUS_NOT_AT_ONCE && taken.id == 9);
+    uint32_t status = begin_return(&pool, 0, 1, (struct object){0, &maker}, &call, &effects);
+    check(status == (rows[n].comes_back ? ZUPHINKA_STATUS_AT_ONCE : ZUPHINKA_STATUS_DONE));
+    check(begin(&pool, ZUPHINKA_KIND_BORROW, &call, &effects) == ZUPHINKA_STATUS_DONE);
     zuphinka_drop(&pool);
   }
 }
@@ -2866,93 +2883,81 @@ static bool is_lent(struct zuphinka *pool, uint64_t id) {
   return is_lent;
 }
 
-/* Takes a step of caller 4 on an object at a time. Returns the answer. */
-static uint32_t step_at(struct zuphinka *pool, uint64_t at, uint32_t input, uint32_t outcome, struct zuphinka_loan loan) {
-  const struct zuphinka_request request = {
-      .at = at, .number = loan.id, .object = loan.object, .caller = 4, .input = input, .outcome = outcome};
-  struct zuphinka_reply reply;
-  check(zuphinka_step(pool, &request, &reply) == ZUPHINKA_STATUS_DONE);
-  return reply.answer;
+/* Work on an idle object is asked for by a borrow of caller 4. */
+static uint64_t begin_work(struct zuphinka *pool, uint64_t at, struct zuphinka_call *call) {
+  const struct zuphinka_start start = {.kind = ZUPHINKA_KIND_BORROW, .caller = 4, .at = at};
+  struct zuphinka_effects effects;
+  check(zuphinka_begin(pool, &start, call, &effects) == ZUPHINKA_STATUS_DONE && effects.action == ZUPHINKA_ACTION_ACTIVATE);
+  check(effects.object == &maker && !is_lent(pool, effects.number));
+  return effects.number;
 }
 
-/* With hooks a loan and its end take two halves each, between which the host works. */
-static void test_loans_by_halves(void) {
-  const struct zuphinka_options hooks = {.activates = true, .validates = true, .passivates = true};
-  const struct zuphinka_start last = {.kind = ZUPHINKA_KIND_RETURN, .at = 9, .object = &maker};
-  struct zuphinka pool = {.at = NULL};
+/* The work of a borrow or a return of caller 4 is done, by which it ends at once. */
+static void end_work(struct zuphinka *pool, uint64_t at, struct zuphinka_call *call, uint32_t end) {
+  const struct zuphinka_event event = {.caller = 4, .at = at, .report = ZUPHINKA_REPORT_SUCCEEDED};
+  struct zuphinka_effects effects;
+  check(zuphinka_advance(pool, call, &event, &effects) == ZUPHINKA_STATUS_AT_ONCE && effects.end == end && effects.object == &maker);
+}
+
+/* With hooks a loan and its end take two calls of the library each, between which the host works. */
+static void test_loans_with_hooks(void) {
+  const struct zuphinka_options hooks = {.activates = true, .passivates = true};
+  struct zuphinka pool = open_core_lent("maxTotal = 1\n", &hooks);
   struct zuphinka_call call;
   struct zuphinka_effects effects;
-  struct zuphinka_loan loan = {0, &maker};
-  refuse_by_halves(&pool, ZUPHINKA_STATUS_NOT_OPEN, &loan);
-  check(zuphinka_open_with(&pool, "maxTotal = 1\n", 13, &hooks) == ZUPHINKA_STATUS_DONE);
-  refuse_by_halves(&pool, ZUPHINKA_STATUS_NOT_AT_ONCE, &loan);
-  check(begin(&pool, ZUPHINKA_KIND_BORROW, &call, &effects) == ZUPHINKA_STATUS_DONE);
-  check(advance(&pool, &call, ZUPHINKA_REPORT_MADE, &effects) == ZUPHINKA_STATUS_DONE && effects.action == ZUPHINKA_ACTION_ACTIVATE);
-  refuse_by_halves(&pool, ZUPHINKA_STATUS_NOT_AT_ONCE, &loan);
-  check(advance(&pool, &call, ZUPHINKA_REPORT_SUCCEEDED, &effects) == ZUPHINKA_STATUS_AT_ONCE);
-  check(zuphinka_check(&pool, 4, 5, 1) == ZUPHINKA_STATUS_NOT_AT_ONCE);
-  check(zuphinka_check(&pool, 4, 5, 0) == ZUPHINKA_STATUS_DONE);
-  check(zuphinka_check(&pool, 4, 5, 0) == ZUPHINKA_STATUS_NOT_AT_ONCE && !is_lent(&pool, 0));
-  check(step_at(&pool, 6, ZUPHINKA_INPUT_PARK, ZUPHINKA_OUTCOME_GOOD, loan) == ZUPHINKA_ANSWER_PARKED);
-  loan = (struct zuphinka_loan){7, NULL};
-  check(zuphinka_take(&pool, 4, 7, &loan) == ZUPHINKA_STATUS_DONE && loan.id == 0 && loan.object == &maker && !is_lent(&pool, 0));
-  check(step_at(&pool, 8, ZUPHINKA_INPUT_READY, ZUPHINKA_OUTCOME_GOOD, loan) == ZUPHINKA_ANSWER_LENT && is_lent(&pool, 0));
+  check(begin_return(&pool, 4, 5, (struct object){0, &maker}, &call, &effects) == ZUPHINKA_STATUS_DONE);
+  check(effects.action == ZUPHINKA_ACTION_PASSIVATE && !is_lent(&pool, 0));
+  end_work(&pool, 6, &call, ZUPHINKA_END_PARKED);
+  check(begin_work(&pool, 7, &call) == 0);
+  end_work(&pool, 8, &call, ZUPHINKA_END_LENT);
+  check(is_lent(&pool, 0));
   check_text(line_at(&pool, 2).text, "4 5 return 0 = check");
   check_text(line_at(&pool, 3).text, "4 6 park 0 good = parked");
   check_text(line_at(&pool, 4).text, "4 7 borrow 7 = take 0");
   check_text(line_at(&pool, 5).text, "4 8 ready 0 good = lent");
-  check(zuphinka_begin(&pool, &last, &call, &effects) == ZUPHINKA_STATUS_DONE && effects.action == ZUPHINKA_ACTION_PASSIVATE);
   zuphinka_drop(&pool);
 }
 
-/* The same with many objects, which are idle by halves and lent by halves. */
-static void test_many_loans_by_halves(void) {
+/* The same with many objects, on all of which the host works at a time. */
+static void test_many_loans_with_hooks(void) {
   const struct zuphinka_options hooks = {.activates = true, .passivates = true};
   const char *settings = "maxTotal = -1\nmaxIdle = -1\njournalLimit = 10000000\n";
   struct zuphinka pool = {.at = NULL};
-  struct zuphinka_call call;
+  struct zuphinka_call *calls = calloc(MANY_LOANS, sizeof *calls);
   struct zuphinka_effects effects;
-  struct zuphinka_loan loan = {0, &maker};
-  check(zuphinka_open_with(&pool, settings, strlen(settings), &hooks) == ZUPHINKA_STATUS_DONE);
+  check(calls && zuphinka_open_with(&pool, settings, strlen(settings), &hooks) == ZUPHINKA_STATUS_DONE);
   for (uint64_t n = 0; n < MANY_LOANS; n++) {
-    check(begin(&pool, ZUPHINKA_KIND_BORROW, &call, &effects) == ZUPHINKA_STATUS_DONE && effects.number == n);
-    check(advance(&pool, &call, ZUPHINKA_REPORT_MADE, &effects) == ZUPHINKA_STATUS_DONE);
-    check(advance(&pool, &call, ZUPHINKA_REPORT_SUCCEEDED, &effects) == ZUPHINKA_STATUS_AT_ONCE);
+    check(begin(&pool, ZUPHINKA_KIND_BORROW, &calls[n], &effects) == ZUPHINKA_STATUS_DONE && effects.number == n);
+    check(advance(&pool, &calls[n], ZUPHINKA_REPORT_MADE, &effects) == ZUPHINKA_STATUS_DONE);
   }
-  for (loan.id = 0; loan.id < MANY_LOANS; loan.id++) check(zuphinka_check(&pool, 4, 1, loan.id) == ZUPHINKA_STATUS_DONE);
-  for (loan.id = 0; loan.id < MANY_LOANS; loan.id++) {
-    check(step_at(&pool, 1, ZUPHINKA_INPUT_PARK, ZUPHINKA_OUTCOME_GOOD, loan) == ZUPHINKA_ANSWER_PARKED);
+  for (uint64_t n = 0; n < MANY_LOANS; n++) end_work(&pool, 1, &calls[n], ZUPHINKA_END_LENT);
+  for (uint64_t n = 0; n < MANY_LOANS; n++) {
+    check(begin_return(&pool, 4, 1, (struct object){n, &maker}, &calls[n], &effects) == ZUPHINKA_STATUS_DONE);
   }
-  for (uint64_t n = MANY_LOANS; n-- > 0;) check(zuphinka_take(&pool, 4, 1, &loan) == ZUPHINKA_STATUS_DONE && loan.id == n);
-  for (loan.id = 0; loan.id < MANY_LOANS; loan.id++) {
-    check(step_at(&pool, 1, ZUPHINKA_INPUT_READY, ZUPHINKA_OUTCOME_GOOD, loan) == ZUPHINKA_ANSWER_LENT);
-  }
+  for (uint64_t n = 0; n < MANY_LOANS; n++) end_work(&pool, 1, &calls[n], ZUPHINKA_END_PARKED);
+  for (uint64_t n = MANY_LOANS; n-- > 0;) check(begin_work(&pool, 1, &calls[n]) == n);
+  for (uint64_t n = 0; n < MANY_LOANS; n++) end_work(&pool, 1, &calls[n], ZUPHINKA_END_LENT);
+  free(calls);
   zuphinka_drop(&pool);
 }
 
-/* A borrow that takes an idle object by halves overtakes one that waits, and no more often than is set. */
-static void test_overtakes_by_halves(void) {
+/* A borrow on whose object the host works overtakes one that waits, and no more often than is set. */
+static void test_overtakes_with_hooks(void) {
   const struct zuphinka_options hooks = {.activates = true, .passivates = true, .max_overtakes = 2};
-  struct zuphinka pool = {.at = NULL};
-  struct zuphinka_call call;
+  struct zuphinka pool = open_core_lent("maxTotal = 1\n", &hooks);
+  struct zuphinka_call call, other;
   struct zuphinka_effects effects;
-  struct zuphinka_loan loan = {0, &maker};
-  uint64_t ticket = 7;
-  check(zuphinka_open_with(&pool, "maxTotal = 1\n", 13, &hooks) == ZUPHINKA_STATUS_DONE);
-  check(begin(&pool, ZUPHINKA_KIND_BORROW, &call, &effects) == ZUPHINKA_STATUS_DONE);
-  check(advance(&pool, &call, ZUPHINKA_REPORT_MADE, &effects) == ZUPHINKA_STATUS_DONE);
-  check(advance(&pool, &call, ZUPHINKA_REPORT_SUCCEEDED, &effects) == ZUPHINKA_STATUS_AT_ONCE);
-  check(begin(&pool, ZUPHINKA_KIND_BORROW, &call, &effects) == ZUPHINKA_STATUS_DONE && effects.action == ZUPHINKA_ACTION_SLEEP);
-  for (int overtakes = 0; overtakes < 3; overtakes++) {
-    check(zuphinka_check(&pool, 4, 0, 0) == ZUPHINKA_STATUS_DONE);
-    check(step_at(&pool, 0, ZUPHINKA_INPUT_PARK, ZUPHINKA_OUTCOME_GOOD, loan) == ZUPHINKA_ANSWER_PARKED);
-    check(zuphinka_next_wake(&pool, &ticket) == ZUPHINKA_STATUS_DONE && ticket == effects.ticket);
-    check(zuphinka_take(&pool, 4, 0, &loan) == (overtakes < 2 ? ZUPHINKA_STATUS_DONE : ZUPHINKA_STATUS_NOT_AT_ONCE));
+  uint64_t ticket = sleeps(&pool, &call);
+  for (int overtakes = 0;; overtakes++) {
+    const struct zuphinka_event done = {.report = ZUPHINKA_REPORT_SUCCEEDED};
+    check(begin_return(&pool, 4, 0, (struct object){0, &maker}, &other, &effects) == ZUPHINKA_STATUS_DONE);
+    check(zuphinka_advance(&pool, &other, &done, &effects) == ZUPHINKA_STATUS_DONE && effects.wake == ticket);
     if (overtakes == 2) break;
-    check(zuphinka_next_wake(&pool, &ticket) == ZUPHINKA_STATUS_NO_WAKE);
-    check(step_at(&pool, 0, ZUPHINKA_INPUT_READY, ZUPHINKA_OUTCOME_GOOD, loan) == ZUPHINKA_ANSWER_LENT);
+    begin_work(&pool, 0, &other);
+    end_work(&pool, 0, &other, ZUPHINKA_END_LENT);
   }
-  check(advance(&pool, &call, ZUPHINKA_REPORT_WOKEN, &effects) == ZUPHINKA_STATUS_DONE && effects.action == ZUPHINKA_ACTION_ACTIVATE);
+  sleeps(&pool, &other);
+  wakes_to(&pool, &call, ZUPHINKA_ACTION_ACTIVATE);
   zuphinka_drop(&pool);
 }
 
@@ -2963,17 +2968,16 @@ static void test_many_loans_at_once(void) {
   struct zuphinka_call call;
   struct zuphinka_effects effects;
   struct zuphinka_tally counts;
-  struct zuphinka_loan loan = {0, &maker};
   check(zuphinka_open(&pool, settings, strlen(settings)) == ZUPHINKA_STATUS_DONE);
   for (uint64_t n = 0; n < MANY_LOANS; n++) {
     check(begin(&pool, ZUPHINKA_KIND_BORROW, &call, &effects) == ZUPHINKA_STATUS_DONE && effects.number == n);
     check(advance(&pool, &call, ZUPHINKA_REPORT_MADE, &effects) == ZUPHINKA_STATUS_DONE && effects.end == ZUPHINKA_END_LENT);
   }
   for (int turn = 0; turn < 2; turn++) {
-    for (loan.id = 0; loan.id < MANY_LOANS; loan.id++) check(zuphinka_take_back(&pool, 0, 1, &loan) == ZUPHINKA_STATUS_DONE);
+    for (uint64_t n = 0; n < MANY_LOANS; n++) take_back(&pool, 0, 1, (struct object){n, &maker});
     check(zuphinka_counts(&pool, &counts) == ZUPHINKA_STATUS_DONE && counts.idle == MANY_LOANS && counts.lent == 0);
     check(zuphinka_reconfigure(&pool, settings, strlen(settings)) == ZUPHINKA_STATUS_DONE);
-    for (uint64_t n = MANY_LOANS; n-- > 0;) check(zuphinka_lend(&pool, 0, 1, &loan) == ZUPHINKA_STATUS_DONE && loan.id == n);
+    for (uint64_t n = MANY_LOANS; n-- > 0;) check(lend_at_once(&pool, 0, 1).id == n);
     check(zuphinka_counts(&pool, &counts) == ZUPHINKA_STATUS_DONE && counts.idle == 0 && counts.lent == MANY_LOANS);
   }
   zuphinka_drop(&pool);
@@ -2991,7 +2995,7 @@ static void test_longer_waits(void) {
   const struct zuphinka_start forever = {.kind = ZUPHINKA_KIND_BORROW, .at = 10, .id = UINT64_MAX};
   static const char *const limits[] = {"maxTotal = 1\nmaxWaitMillis = 0\n", "maxTotal = 1\nmaxWaitMillis = 30\n"};
   for (uint64_t n = 0; n < 2; n++) {
-    uint64_t limit = 30 * n, steps = 0, ticket = 0;
+    uint64_t limit = 30 * n, steps = 0;
     struct zuphinka pool = {.at = NULL};
     struct zuphinka_call call, other;
     struct zuphinka_effects effects;
@@ -3010,45 +3014,34 @@ static void test_longer_waits(void) {
     wake_at(&pool, &other, 10 + limit + 1000, &effects);
     check(effects.action == ZUPHINKA_ACTION_SLEEP);
     check(zuphinka_steps(&pool, &steps) == ZUPHINKA_STATUS_DONE && steps == 2 + n);
-    const struct zuphinka_loan loan = {0, &maker};
-    check(zuphinka_take_back(&pool, 0, 2000, &loan) == ZUPHINKA_STATUS_DONE);
-    check(zuphinka_next_wake(&pool, &ticket) == ZUPHINKA_STATUS_DONE && ticket == effects.ticket);
+    uint64_t ticket = effects.ticket;
+    check(begin_return(&pool, 0, 2000, (struct object){0, &maker}, &call, &effects) == ZUPHINKA_STATUS_DONE && effects.wake == ticket);
     wake_at(&pool, &other, 2000, &effects);
     check(effects.end == ZUPHINKA_END_LENT && effects.number == 0);
     zuphinka_drop(&pool);
   }
 }
 
-/* Begins a borrow that lends at once, and returns its object. */
-static void overtake(struct zuphinka *pool) {
-  struct zuphinka_loan loan;
-  uint64_t ticket;
-  check(zuphinka_lend(pool, 0, 0, &loan) == ZUPHINKA_STATUS_DONE);
-  while (zuphinka_next_wake(pool, &ticket) == ZUPHINKA_STATUS_DONE) continue;
-  check(zuphinka_take_back(pool, 0, 0, &loan) == ZUPHINKA_STATUS_DONE);
-  while (zuphinka_next_wake(pool, &ticket) == ZUPHINKA_STATUS_DONE) continue;
-}
+/* A borrow is lent an object at once, and it returns. */
+static void overtake(struct zuphinka *pool) { take_back(pool, 0, 0, lend_at_once(pool, 0, 0)); }
 
 /* The bound on overtakes can be raised and lowered while calls wait, but not below what the oldest has seen. */
 static void test_changed_overtakes(void) {
-  struct zuphinka pool = {.at = NULL};
-  struct zuphinka_call call;
+  struct zuphinka pool = open_core_lent("maxTotal = 1\n", &(struct zuphinka_options){.max_overtakes = 7});
+  struct zuphinka_call call, other;
   struct zuphinka_effects effects;
-  struct zuphinka_loan loan = {0, &maker};
   uint64_t bound = 7;
-  check(zuphinka_open(&pool, "maxTotal = 1\n", 13) == ZUPHINKA_STATUS_DONE);
   check(zuphinka_set_overtakes(&pool, 3, &bound) == ZUPHINKA_STATUS_DONE && bound == 3);
-  check(begin(&pool, ZUPHINKA_KIND_BORROW, &call, &effects) == ZUPHINKA_STATUS_DONE);
-  check(advance(&pool, &call, ZUPHINKA_REPORT_MADE, &effects) == ZUPHINKA_STATUS_DONE && effects.end == ZUPHINKA_END_LENT);
-  check(begin(&pool, ZUPHINKA_KIND_BORROW, &call, &effects) == ZUPHINKA_STATUS_DONE && effects.action == ZUPHINKA_ACTION_SLEEP);
-  check(zuphinka_take_back(&pool, 0, 0, &loan) == ZUPHINKA_STATUS_DONE);
+  sleeps(&pool, &call);
+  take_back(&pool, 0, 0, (struct object){0, &maker});
   overtake(&pool);
   overtake(&pool);
   check(zuphinka_set_overtakes(&pool, 1, &bound) == ZUPHINKA_STATUS_DONE && bound == 2);
-  check(zuphinka_lend(&pool, 0, 0, &loan) == ZUPHINKA_STATUS_NOT_AT_ONCE);
+  sleeps(&pool, &other);
+  check(advance(&pool, &other, ZUPHINKA_REPORT_GIVEN_UP, &effects) == ZUPHINKA_STATUS_DONE);
   check(zuphinka_set_overtakes(&pool, UINT64_MAX, &bound) == ZUPHINKA_STATUS_DONE && bound == UINT64_MAX);
   overtake(&pool);
-  check(advance(&pool, &call, ZUPHINKA_REPORT_WOKEN, &effects) == ZUPHINKA_STATUS_DONE && effects.end == ZUPHINKA_END_LENT);
+  wakes_to(&pool, &call, ZUPHINKA_ACTION_DONE);
   check(zuphinka_set_overtakes(&pool, 0, &bound) == ZUPHINKA_STATUS_DONE && bound == 0);
   zuphinka_drop(&pool);
 }
@@ -3060,13 +3053,13 @@ static void test_lent_objects(void) {
   struct zuphinka pool = {.at = NULL};
   struct zuphinka_call call;
   struct zuphinka_effects effects;
-  struct zuphinka_loan loan = {0, &maker};
   check(zuphinka_open(&pool, settings, strlen(settings)) == ZUPHINKA_STATUS_DONE);
   check(!is_lent(&pool, 0));
   check(begin(&pool, ZUPHINKA_KIND_BORROW, &call, &effects) == ZUPHINKA_STATUS_DONE && !is_lent(&pool, 0));
   check(advance(&pool, &call, ZUPHINKA_REPORT_MADE, &effects) == ZUPHINKA_STATUS_DONE && is_lent(&pool, 0) && !is_lent(&pool, 1));
-  check(zuphinka_take_back(&pool, 0, 0, &loan) == ZUPHINKA_STATUS_DONE && !is_lent(&pool, 0));
-  check(zuphinka_lend(&pool, 0, 0, &loan) == ZUPHINKA_STATUS_DONE && is_lent(&pool, 0));
+  take_back(&pool, 0, 0, (struct object){0, &maker});
+  check(!is_lent(&pool, 0));
+  check(lend_at_once(&pool, 0, 0).id == 0 && is_lent(&pool, 0));
   check(zuphinka_begin(&pool, &reclaim, &call, &effects) == ZUPHINKA_STATUS_DONE && effects.count == 1 && !is_lent(&pool, 0));
   zuphinka_drop(&pool);
 }
@@ -3713,10 +3706,10 @@ static const struct {
     TEST(loans_at_once),
     TEST(many_loans_at_once),
     TEST(nothing_at_once_after_a_vain_wake),
-    TEST(what_is_begun),
-    TEST(loans_by_halves),
-    TEST(many_loans_by_halves),
-    TEST(overtakes_by_halves),
+    TEST(what_is_not_over_at_once),
+    TEST(loans_with_hooks),
+    TEST(many_loans_with_hooks),
+    TEST(overtakes_with_hooks),
     TEST(longer_waits),
     TEST(changed_overtakes),
     TEST(lent_objects),

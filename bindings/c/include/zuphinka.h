@@ -105,8 +105,7 @@ enum zuphinka_status {
   ZUPHINKA_STATUS_NO_CALL = 13,         /* the struct has no call in progress of the pool */
   ZUPHINKA_STATUS_MISFIT = 14,          /* the report does not fit the last action of the call */
   ZUPHINKA_STATUS_NO_WAKE = 15,         /* no call is to be woken */
-  ZUPHINKA_STATUS_NOT_AT_ONCE = 16,     /* the call is not over at once: it is to be begun */
-  ZUPHINKA_STATUS_AT_ONCE = 17          /* the call is over: its object is lent, or idle, and no call is to be woken */
+  ZUPHINKA_STATUS_AT_ONCE = 16          /* the call is over: its object is lent, or idle, and no call is to be woken */
 };
 
 /* The input of a request. `number`, `outcome` and `object` are fields of the request. */
@@ -331,12 +330,6 @@ enum zuphinka_end {
   ZUPHINKA_END_CONTRADICTED = 20       /* the host broke a rule: it returned an object that another call works on, or the like */
 };
 
-/* A lent object. */
-struct zuphinka_loan {
-  uint64_t id;
-  void *object; /* its token */
-};
-
 /* What the host does next, with the numbers that it needs. */
 struct zuphinka_effects {
   uint64_t number;    /* the id of the object that the action is for, or that is lent; else 0 */
@@ -497,7 +490,7 @@ uint32_t zuphinka_open_with(struct zuphinka *pool, const char *settings, size_t 
  * allocates memory if the pool has as many objects as before.
  *
  * Where a borrow has lent its object or a return has parked it, and no call is to be woken, the status may be ZUPHINKA_STATUS_AT_ONCE in place of
- * ZUPHINKA_STATUS_DONE. Then only `number` and `object` are stored in `effects`, and the call is over.
+ * ZUPHINKA_STATUS_DONE. Then only `number`, `object` and `end` are stored in `effects`, and the call is over.
  *
  * The host holds its lock during a call of the library, and not while it acts or sleeps. After each call of `zuphinka_begin` and
  * `zuphinka_advance` it wakes the call whose ticket is `wake`, if there is one, and then those of `zuphinka_next_wake` until none is left. After a
@@ -521,48 +514,6 @@ uint32_t zuphinka_begin(struct zuphinka *pool, const struct zuphinka_start *star
  */
 uint32_t zuphinka_advance(struct zuphinka *pool, struct zuphinka_call *call, const struct zuphinka_event *event,
                           struct zuphinka_effects *effects);
-
-/*
- * Lends an idle object at once, if a borrow that begins now would end so: it takes both steps of that, `borrow` and `ready`, and stores the object's id
- * and token in `loan`. Times count as in `zuphinka_begin`. It may overtake calls that wait, as the borrow would. Then `zuphinka_next_wake` names those
- * to wake.
- *
- * Returns ZUPHINKA_STATUS_DONE. Otherwise the pool and `loan` are unchanged: ZUPHINKA_STATUS_NOT_OPEN; or ZUPHINKA_STATUS_NOT_AT_ONCE, and the
- * borrow is to be begun: a hook or a test is to run, or abandoned objects are to be removed; calls that wait come first; no object is idle; the journal
- * is to be cut, or has no room; or there is no memory.
- */
-uint32_t zuphinka_lend(struct zuphinka *pool, uint32_t caller, uint64_t at, struct zuphinka_loan *loan);
-
-/*
- * Takes an idle object for a borrow that begins now, by its first step, `borrow`, and stores the object's id and token in `loan`. The host activates
- * and tests it without its lock, and reports that by a step, ZUPHINKA_INPUT_READY. If the work failed, the answer is ZUPHINKA_ANSWER_DESTROY: the
- * host destroys the object, reports that by ZUPHINKA_INPUT_DESTROYED, and begins the borrow. Times, overtakes and wakes are those of
- * `zuphinka_lend`.
- *
- * Returns ZUPHINKA_STATUS_DONE. Otherwise the pool and `loan` are unchanged: ZUPHINKA_STATUS_NOT_OPEN; or ZUPHINKA_STATUS_NOT_AT_ONCE, and the
- * borrow is to be begun: abandoned objects are to be removed; calls that wait come first; no object is idle; the journal is to be cut, or has no
- * room; or there is no memory.
- */
-uint32_t zuphinka_take(struct zuphinka *pool, uint32_t caller, uint64_t at, struct zuphinka_loan *loan);
-
-/*
- * Takes a lent object back at once, if its return would end so: it takes both steps of that, `return` and `park`, and the object is idle, with its
- * token. Then the host wakes the calls of `zuphinka_next_wake`.
- *
- * Returns ZUPHINKA_STATUS_DONE. Otherwise the pool is unchanged: ZUPHINKA_STATUS_NOT_OPEN; or ZUPHINKA_STATUS_NOT_AT_ONCE, and the return is
- * to be begun: a hook or a test is to run; the object is not lent; the pool is closed, or has as many idle objects as it may; or the journal is to be cut.
- */
-uint32_t zuphinka_take_back(struct zuphinka *pool, uint32_t caller, uint64_t at, const struct zuphinka_loan *loan);
-
-/*
- * Takes the first step, `return`, of the return of lent object `id`. The host tests and passivates it without its lock, and reports that by a step,
- * ZUPHINKA_INPUT_PARK. If the answer is ZUPHINKA_ANSWER_DESTROY, it destroys the object, and reports that by ZUPHINKA_INPUT_DESTROYED. After the
- * object is idle or its place is free the host wakes the calls of `zuphinka_next_wake`. Times count as in `zuphinka_begin`.
- *
- * Returns ZUPHINKA_STATUS_DONE. Otherwise the pool is unchanged: ZUPHINKA_STATUS_NOT_OPEN; or ZUPHINKA_STATUS_NOT_AT_ONCE, and the return is to be
- * begun: the object is not lent, or the journal is to be cut.
- */
-uint32_t zuphinka_check(struct zuphinka *pool, uint32_t caller, uint64_t at, uint64_t id);
 
 /*
  * Stores in `ticket` the ticket of the next call to wake: the oldest that sleeps, one for each idle object and each free place, and all once the pool
@@ -619,7 +570,6 @@ static inline const char *zuphinka_status_text(uint32_t status) {
     case ZUPHINKA_STATUS_NO_CALL: return "the pool has no such call in progress";
     case ZUPHINKA_STATUS_MISFIT: return "the report does not fit the last action of the call";
     case ZUPHINKA_STATUS_NO_WAKE: return "no call is to be woken";
-    case ZUPHINKA_STATUS_NOT_AT_ONCE: return "the call is not over at once: it is to be begun";
     case ZUPHINKA_STATUS_AT_ONCE: return "the call is over: its object is lent, or idle, and no call is to be woken";
     default: return "the code is no status";
   }

@@ -163,9 +163,10 @@ static inline jlong reply(struct pool *pool, const struct zuphinka_effects *effe
   return (jlong)((uint64_t)(uintptr_t)effects->object << 24 | flags << 16 | (uint64_t)effects->end << 8 | effects->action);
 }
 
-/* Returns the reply of a borrow or a return that is over at once, of which the library stores the object alone. */
+/* Returns the reply of a borrow or a return that is over at once, of which the library stores the object and the end alone. */
 static inline jlong reply_at_once(struct pool *pool, const struct zuphinka_effects *effects) {
-  return (jlong)((uint64_t)(uintptr_t)effects->object << 24 | (note_numbers(pool) | AT_ONCE) << 16);
+  uint64_t flags = note_numbers(pool) | AT_ONCE;
+  return (jlong)((uint64_t)(uintptr_t)effects->object << 24 | flags << 16 | (uint64_t)effects->end << 8 | ZUPHINKA_ACTION_DONE);
 }
 
 /* Returns a time as that of the next step: the greatest so far, since the clock is read without the lock. */

@@ -19,7 +19,7 @@ enum { LINE = 64 };
 /* How many calls in progress a pool has places for at first, and how many more it gets at a time. */
 enum { PLACES = 32 };
 
-/* What Java reads of the last reply, by the offsets in io.github.zuphinka.Core. It writes the last four fields. */
+/* What Java reads of the last reply, by the offsets in io.github.zuphinka.Core. It writes those from `taken` on. */
 struct details {
   uint64_t object; /* the id of the object that the action is for */
   uint64_t ticket, until, wake;
@@ -62,7 +62,7 @@ static inline struct pool *pool_at(jlong handle) { return (struct pool *)(intptr
 
 static inline struct zuphinka *core_at(jlong handle) { return &pool_at(handle)->core; }
 
-/* The flags of a reply. That of a call that is over at once has no other ones, and the token alone besides. */
+/* The flags of a reply. A call that is over at once stores no details, and wakes nobody. */
 enum { HAS_WAKE = 1, HAS_UNTIL = 2, AT_ONCE = 4, HAS_RECLAIMED = 8, IS_LOW = 16 };
 
 /* Looks how many entries there are. Returns the flag for that. */

@@ -30,15 +30,6 @@ impl Kind {
         matches!(self, Kind::Return | Kind::Invalidate)
     }
 
-    /// Returns the code of the end of such a call that is over at once.
-    #[inline(always)]
-    pub fn end_at_once(self) -> u32 {
-        match self {
-            Kind::Borrow => sys::END_LENT,
-            _ => sys::END_PARKED,
-        }
-    }
-
     /// Returns whether a closed pool refuses such a call.
     pub fn needs_open_pool(self) -> bool {
         matches!(self, Kind::Borrow | Kind::Add | Kind::Evict)

@@ -4,7 +4,7 @@ use crate::call::{End, Kind};
 use crate::clock::Moment;
 use crate::locked_pool::LockedPool;
 use crate::manager::Manager;
-use crate::proved_core::{Call, Named};
+use crate::proved_core::{AtOnce, Call};
 use crate::room::NoRoom;
 use crate::shared::{Item, WaitLimit};
 use crate::sys::Start;
@@ -165,11 +165,14 @@ impl<M: Manager> Course<M> {
 
     /// Takes an object that is lent as the call begins.
     #[inline(always)]
-    pub fn lend(&self, state: &mut LockedPool<M::Object>, lent: Named) -> Loan<Item<M>> {
+    pub fn lend(&self, state: &mut LockedPool<M::Object>, lent: AtOnce) -> Loan<Item<M>> {
         state.measures.waits.count(self.began, self.at.nanos);
         let object = state.values.take(lent.token).lent_at(self.at);
-        let Named { id, token } = lent;
-        Loan { id, token, object }
+        Loan {
+            id: lent.id,
+            token: lent.token,
+            object,
+        }
     }
 
     /// Leaves the returned object, which is idle.

@@ -1,7 +1,7 @@
 //! The proved core, over its C library. All code that is `unsafe` is here, in `locked`, which has the lock, in `exits`, which asks C's library to be
 //! told of the end, and in `clock`, which reads the system's.
 
-use crate::call::{Action, End, Kind, Report};
+use crate::call::{Action, End, Report};
 use crate::counts::Counts;
 use crate::sys;
 use std::ffi::c_char;
@@ -40,17 +40,18 @@ pub(crate) struct Call {
 /// Where a call begins: it is written there in place.
 pub(crate) type Space = MaybeUninit<Call>;
 
-/// The id and the token of an object.
+/// How a call ended that is over at once: the id and the token of its object, and the code of its end.
 #[derive(Clone, Copy)]
-pub(crate) struct Named {
+pub(crate) struct AtOnce {
     pub id: u64,
     pub token: u64,
+    end: u32,
 }
 
 /// A call that has begun.
 pub(crate) enum Begun<'a> {
     /// It is over: this object is lent, or the returned one is idle, and nobody is to be woken.
-    AtOnce(Named),
+    AtOnce(AtOnce),
     On(&'a mut Call),
 }
 
@@ -100,20 +101,19 @@ impl Call {
         self.effects.action == sys::ACTION_DONE
     }
 
-    /// A call of a kind that was over at once, with its object.
+    /// A call that was over at once.
     #[cold]
-    pub fn over(kind: Kind, named: Named) -> Call {
+    pub fn over(ended: AtOnce) -> Call {
         let mut call = Call::cancelled();
-        call.effects.end = kind.end_at_once();
-        (call.effects.number, call.effects.object) = (named.id, named.token);
+        (call.effects.number, call.effects.object) = (ended.id, ended.token);
+        call.effects.end = ended.end;
         call
     }
 
-    /// It is over: its object is lent, or idle, and nobody is to be woken.
+    /// It is over, as the library stored, and nobody is to be woken.
     #[inline(always)]
-    fn end_at_once(&mut self, kind: Kind) {
+    fn end_at_once(&mut self) {
         self.effects.action = sys::ACTION_DONE;
-        self.effects.end = kind.end_at_once();
         self.effects.has_wake = false;
     }
 
@@ -252,11 +252,12 @@ impl Core {
             sys::zuphinka_begin(&mut self.handle, start, progress.cast(), effects)
         };
         match status {
-            // SAFETY: then these two of the effects are written.
+            // SAFETY: then these three of the effects are written.
             sys::STATUS_AT_ONCE => Begun::AtOnce(unsafe {
-                Named {
+                AtOnce {
                     id: addr_of!((*call).effects.number).read(),
                     token: addr_of!((*call).effects.object).read(),
+                    end: addr_of!((*call).effects.end).read(),
                 }
             }),
             // SAFETY: then the effects are written, and the call too, unless it is over.
@@ -267,12 +268,12 @@ impl Core {
 
     /// Goes on with a call in progress after a report of its last action.
     #[inline(always)]
-    pub fn advance(&mut self, event: &sys::Event, kind: Kind, call: &mut Call) -> bool {
+    pub fn advance(&mut self, event: &sys::Event, call: &mut Call) -> bool {
         assert!(!call.is_over(), "{OVER}");
         let (progress, effects) = (call.progress.as_mut_ptr(), &mut call.effects);
         // SAFETY: the handle is this core's, no two of the four overlap, and the call has begun and is not over.
         match unsafe { sys::zuphinka_advance(&mut self.handle, progress, event, effects) } {
-            sys::STATUS_AT_ONCE => call.end_at_once(kind),
+            sys::STATUS_AT_ONCE => call.end_at_once(),
             sys::STATUS_DONE => return false,
             status => unreachable!("a report to a call has status {status}"),
         }
@@ -291,7 +292,7 @@ impl Core {
             caller: 0,
             report: Report::GivenUp,
         };
-        self.advance(&event, Kind::Borrow, &mut call);
+        self.advance(&event, &mut call);
         debug_assert!(call.is_over());
         call.wake()
     }

@@ -18,7 +18,7 @@ impl<M: Manager> InProgress<'_, M> {
     fn begin_again(&mut self, state: &mut LockedPool<M::Object>) {
         let mut space = Space::uninit();
         *self.call = match state.begin(self.course.start(), self.course.at, &mut space) {
-            Begun::AtOnce(object) => Call::over(self.course.kind, object),
+            Begun::AtOnce(ended) => Call::over(ended),
             Begun::On(call) => *call,
         };
     }
@@ -32,7 +32,7 @@ impl<M: Manager> InProgress<'_, M> {
             caller: self.course.caller,
             report,
         };
-        state.core.advance(&event, self.course.kind, self.call)
+        state.core.advance(&event, self.call)
     }
 
     /// Does the same for a call that has waited. Returns its alarm, if it slept, or waited for room as a task.

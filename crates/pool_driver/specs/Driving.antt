@@ -252,10 +252,6 @@ may_come_in available d =
     if d.holds_back && is_limited d.queue && nat_lt 0 (length d.queue.waiting) && nat_le available (length d.queue.waiting) then false
     else may_lend available d.queue
 
--- the entries that still fit besides the outstanding ones are fewer than a quarter of the limit
-abbrev pub is_low_in : CoreModel ℕ → Bool
-is_low_in c = nat_lt (limit_from c.settings c.base - (length c.journal + owed_from c.base c.journal)) (c.settings.journal_limit / 4)
-
 -- a borrow times out if its time is over, and sleeps on if it is not
 abbrev pub sleeps_until : Bool → Waking
 sleeps_until over = if over then wakings.TimesOut else wakings.SleepsOn
@@ -291,7 +287,7 @@ waits_on d at c began =
 abbrev pub passed : Bool → List Waiter → List Waiter
 passed is ws = if is then map overtaken_once ws else ws
 
--- ---- calls that are over at once
+-- ---- what the host is asked in the usual course
 -- a borrow of an idle object has its host do something, or removes abandoned objects first
 abbrev pub asks_at_borrow : Plan → Bool
 asks_at_borrow p = p.activates || p.test_on_borrow || p.remove_abandoned_on_borrow
@@ -299,42 +295,6 @@ asks_at_borrow p = p.activates || p.test_on_borrow || p.remove_abandoned_on_borr
 -- a return has its host do something
 abbrev pub asks_at_return : Plan → Bool
 asks_at_return p = p.passivates || p.test_on_return
-
--- a borrow that may come before those that wait takes an idle object by its first step. It has overtaken each of them once more
--- if they could have had the object
-pub record TakesAtOnce (caller at id token : ℕ) (old new : DrivenModel) : Type 0 where
-  pub keeps : old.plan.remove_abandoned_on_borrow ≡ false
-  pub may : may_come_in (available_in old.core) old ≡ true
-  pub waiting : new.queue.waiting ≡ passed (takes_from_waiters (available_in old.core) old.queue) old.queue.waiting
-  pub taken : Answered caller at (inputs.Borrow at) None old.core new.core (answers.Take id) (Some token)
-  pub rest :
-      new
-      ≡ record old {
-        core = new.core;
-        queue = record old.queue { waiting = new.queue.waiting; overtakes = new.queue.overtakes };
-        last = at;
-      }
-
--- such a borrow lends the object by its two steps, and its host is asked nothing
-pub record LendsAtOnce (caller at id token : ℕ) (old new : DrivenModel) : Type 0 where
-  pub silent : asks_at_borrow old.plan ≡ false
-  pub mid : DrivenModel
-  pub taken : TakesAtOnce caller at id token old mid
-  pub lent : Answered caller at (inputs.Ready id outcomes.Good) None mid.core new.core answers.Lent None
-  pub rest : new ≡ record mid { core = new.core }
-
--- a returned object is checked, by the first step of its return
-pub record ChecksAtOnce (caller at id : ℕ) (old new : DrivenModel) : Type 0 where
-  pub checked : Answered caller at (inputs.GiveBack id) None old.core new.core answers.Check None
-  pub rest : new ≡ record old { core = new.core; last = at }
-
--- it is idle again by its two steps, and its host is asked nothing
-pub record TakesBackAtOnce (caller at id token : ℕ) (old new : DrivenModel) : Type 0 where
-  pub silent : asks_at_return old.plan ≡ false
-  pub mid : DrivenModel
-  pub checked : ChecksAtOnce caller at id old mid
-  pub parked : Answered caller at (inputs.Park id outcomes.Good) (Some token) mid.core new.core answers.Parked None
-  pub rest : new ≡ record mid { core = new.core }
 
 -- ---- reports
 abbrev pub WakesAs : Waking → Operation → Operation → Type 0

@@ -2,7 +2,6 @@
 //! here.
 #![tactic(auto)]
 
-mod at_once;
 mod beginning;
 mod call;
 mod effects;

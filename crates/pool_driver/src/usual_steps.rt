@@ -3,7 +3,7 @@
 ghost use Rattle.std.specs.Prelude.{◌≡◌, ℕ, max, true, IfNone, IfSome, Some};
 ghost use Rattle.std.specs.Option.{is_some};
 ghost use Rattle.pool_calls.specs.Operations.{step_at};
-ghost use Rattle.pool_driver.specs.Driving.{DrivenModel};
+ghost use Rattle.pool_driver.specs.Driving.{DrivenModel, asks_at_borrow, asks_at_return};
 ghost use Rattle.pool_driver.specs.Going.{Heard, Stepped, WentOn};
 ghost use Rattle.pool_driver.specs.Overtaking.{is_borrow};
 ghost use Rattle.pool_driver.specs.declared.call.Call.{Call};
@@ -27,6 +27,22 @@ fn is_borrow(input: Input) -> bool
 }
 
 impl DrivenPool {
+    /// Returns whether a borrow of an idle object has its host do something, or removes abandoned objects first.
+    #[inline(always)]
+    pub fn asks_at_borrow(&self) -> bool
+        ensures { result ≡ asks_at_borrow self.now.plan }
+    {
+        self.plan.activates || self.plan.test_on_borrow || self.plan.remove_abandoned_on_borrow
+    }
+
+    /// Returns whether a return has its host do something.
+    #[inline(always)]
+    pub fn asks_at_return(&self) -> bool
+        ensures { result ≡ asks_at_return self.now.plan }
+    {
+        self.plan.passivates || self.plan.test_on_return
+    }
+
     // What the host does next of a call that was told a report, and then took a step.
     #[inline(always)]
     fn stepped(&mut self, call: &mut Call, at: u64) -> Effects

@@ -11,7 +11,7 @@ ghost use Rattle.pool_calls.specs.declared.action.Event.TheVariants as events;
 ghost use Rattle.pool_driver.specs.declared.report.Report.TheVariants as reports;
 ghost use Rattle.pool_driver.specs.Queueing.{Queues};
 ghost use Rattle.pool_driver.specs.Overtaking.{CountsOvertakes, Hears, Rests, is_found, is_newcomer, others};
-ghost use Rattle.pool_driver.specs.Driving.{Accepts, HasRoom, IsAvailable, IsWoken, LacksRoomOnlyEmpty, LooksIf, Moves, TakesFirst, available_in, is_low_in, may_come_in, passed, until_of, has_waited, sleeps_until, waking_at, waking_of, waits_on};
+ghost use Rattle.pool_driver.specs.Driving.{Accepts, HasRoom, IsAvailable, IsWoken, LacksRoomOnlyEmpty, LooksIf, Moves, TakesFirst, available_in, may_come_in, passed, until_of, has_waited, sleeps_until, waking_at, waking_of, waits_on};
 
 use crate::call::Call;
 use crate::pool::DrivenPool;
@@ -98,13 +98,6 @@ impl DrivenPool {
             Ok(most) => Some(began.saturating_add(most.saturating_add(call.longer))),
             Err(_) => None,
         }
-    }
-
-    /// Returns whether the room of the journal is less than a quarter of its limit.
-    pub(crate) fn is_low(&self) -> bool
-        ensures { result ≡ is_low_in self.now.core }
-    {
-        self.core.room() < self.settings.journal_limit / 4
     }
 
     // A call waits no longer: its ticket leaves.

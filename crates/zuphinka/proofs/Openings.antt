@@ -4,7 +4,7 @@ use Rattle.zuphinka.specs.Calls.{Opened, Opens, OpenedWith, OpensWith}
 use Rattle.zuphinka.specs.Opening.{OpenModel, core_in}
 use Rattle.zuphinka.specs.declared.pool_options.PoolOptions.{PoolOptions}
 use Rattle.zuphinka.specs.declared.status.Status.{Status}
-use Rattle.zuphinka.specs.declared.status.Status.TheVariants.{Done, NotOpen, AlreadyOpen, OutOfMemory, JournalFull, BadRequest, NoEntry, NoRoom, NotText, NotToml, UnknownKey, WrongType, OutOfRange, NoCall, Misfit, NoWake, NotAtOnce, AtOnce}
+use Rattle.zuphinka.specs.declared.status.Status.TheVariants.{Done, NotOpen, AlreadyOpen, OutOfMemory, JournalFull, BadRequest, NoEntry, NoRoom, NotText, NotToml, UnknownKey, WrongType, OutOfRange, NoCall, Misfit, NoWake, AtOnce}
 
 opened_core : (text : List ℕ) (o : PoolOptions) (p : OpenModel) → OpenedWith text o p → Opened text p.driven.core
 opened_core text o p is = record {
@@ -33,5 +33,4 @@ opens_core text o None new OutOfRange is = (is.0, ap core_in is.1)
 opens_core text o None new NoCall is = (is.0, ap core_in is.1)
 opens_core text o None new Misfit is = (is.0, ap core_in is.1)
 opens_core text o None new NoWake is = (is.0, ap core_in is.1)
-opens_core text o None new NotAtOnce is = (is.0, ap core_in is.1)
 opens_core text o None new AtOnce is = (is.0, ap core_in is.1)

@@ -10,7 +10,7 @@ use Rattle.pool_core.specs.Reply.{reply_from}
 use Rattle.pool_calls.specs.Operations.{began_of, is_over, step_at}
 use Rattle.pool_calls.specs.Waiting.{IsSettled, Signals, most_overtaken}
 use Rattle.pool_calls.specs.declared.operation.Operation.{Operation}
-use Rattle.pool_driver.specs.Driving.{DrivenModel, Begins, ChecksAtOnce, LendsAtOnce, TakesAtOnce, TakesBackAtOnce, available_in, detaches, fits_report}
+use Rattle.pool_driver.specs.Driving.{DrivenModel, Begins, available_in, detaches, fits_report}
 use Rattle.pool_driver.specs.Going.{WentOn}
 use Rattle.pool_driver.specs.declared.call.Call.{Call}
 use Rattle.pool_driver.specs.declared.effects.Effects.{Effects}
@@ -23,13 +23,12 @@ use Rattle.zuphinka.specs.Status.{status_code}
 use Rattle.zuphinka.specs.declared.call_effects.CallEffects.{CallEffects}
 use Rattle.zuphinka.specs.declared.event.CallEvent.{CallEvent}
 use Rattle.zuphinka.specs.declared.host_call.HostCall.{HostCall}
-use Rattle.zuphinka.specs.declared.loan.Loan.{Loan}
 use Rattle.zuphinka.specs.declared.pool_state.PoolState.{PoolState}
 use Rattle.zuphinka.specs.declared.starting.CallStart.{CallStart}
 use Rattle.zuphinka.specs.declared.starting.Kind.{Kind}
 use Rattle.zuphinka.specs.declared.starting.Kind.TheVariants as kinds
 use Rattle.zuphinka.specs.declared.status.Status.{Status}
-use Rattle.zuphinka.specs.declared.status.Status.TheVariants.{Done, NotOpen, BadRequest, NoCall, Misfit, NoWake, NotAtOnce, AtOnce}
+use Rattle.zuphinka.specs.declared.status.Status.TheVariants.{Done, NotOpen, BadRequest, NoCall, Misfit, NoWake, AtOnce}
 
 -- ---- what the host is told
 -- C reads these effects of a call, and the ticket to wake
@@ -66,9 +65,9 @@ pub record GoesOn (caller at : ℕ) (report : Report) (old new : DrivenModel) (b
 abbrev pub is_quiet : CallEffects → Bool
 is_quiet e = (e.end == 1 || e.end == 10) && not e.has_wake
 
--- of a call that is over so C reads the object alone
+-- of a call that is over so C reads the object and the end alone
 abbrev pub read_of : Bool → CallEffects → CallEffects → CallEffects
-read_of true told before = record before { number = told.number; object = told.object }
+read_of true told before = record before { number = told.number; object = told.object; end = told.end }
 read_of false told before = told
 
 abbrev pub status_told : Bool → Status
@@ -171,57 +170,7 @@ ends_loan _ = true
 abbrev pub is_lent_in : OpenModel → ℕ → Bool
 is_lent_in p id = ends_loan (reply_from p.driven.core.settings p.driven.core.base p.driven.core.journal 0 (inputs.GiveBack id))
 
--- ---- calls that are over at once
--- the result of a borrow that is not begun as a call.
-abbrev pub LendsTo : ℕ → ℕ → OpenModel → OpenModel → Loan → Loan → Status → Type 0
-LendsTo caller at old new loan loan' Done =
-    LendsAtOnce caller (max at old.driven.last) loan'.id loan'.object old.driven new.driven
-    × (new ≡ record old { driven = new.driven })
-LendsTo caller at old new loan loan' NotAtOnce = (new ≡ old) × (loan' ≡ loan)
-LendsTo caller at old new loan loan' _ = ⊥
-
--- the result of the first step of a borrow that is not begun as a call.
-abbrev pub TakesTo : ℕ → ℕ → OpenModel → OpenModel → Loan → Loan → Status → Type 0
-TakesTo caller at old new loan loan' Done =
-    TakesAtOnce caller (max at old.driven.last) loan'.id loan'.object old.driven new.driven
-    × (new ≡ record old { driven = new.driven })
-TakesTo caller at old new loan loan' NotAtOnce = (new ≡ old) × (loan' ≡ loan)
-TakesTo caller at old new loan loan' _ = ⊥
-
--- the result of a return that is not begun as a call
-abbrev pub TakesBackTo : ℕ → ℕ → Loan → OpenModel → OpenModel → Status → Type 0
-TakesBackTo caller at loan old new Done =
-    TakesBackAtOnce caller (max at old.driven.last) loan.id loan.object old.driven new.driven × (new ≡ record old { driven = new.driven })
-TakesBackTo caller at loan old new NotAtOnce = new ≡ old
-TakesBackTo caller at loan old new _ = ⊥
-
--- the result of the first step of a return that is not begun as a call
-abbrev pub ChecksTo : ℕ → ℕ → ℕ → OpenModel → OpenModel → Status → Type 0
-ChecksTo caller at id old new Done = ChecksAtOnce caller (max at old.driven.last) id old.driven new.driven × (new ≡ record old { driven = new.driven })
-ChecksTo caller at id old new NotAtOnce = new ≡ old
-ChecksTo caller at id old new _ = ⊥
-
 -- ---- handles
--- the result of lending an object of the pool in a handle
-abbrev pub LendsIn : ℕ → ℕ → Option OpenModel → Option OpenModel → Loan → Loan → Status → Type 0
-LendsIn caller at None new loan loan' s = (s ≡ NotOpen) × (new ≡ None) × (loan' ≡ loan)
-LendsIn caller at (Some old) new loan loan' s = IsSomeAnd new (λ p. LendsTo caller at old p loan loan' s)
-
--- the result of taking an idle object of the pool in a handle
-abbrev pub TakesIn : ℕ → ℕ → Option OpenModel → Option OpenModel → Loan → Loan → Status → Type 0
-TakesIn caller at None new loan loan' s = (s ≡ NotOpen) × (new ≡ None) × (loan' ≡ loan)
-TakesIn caller at (Some old) new loan loan' s = IsSomeAnd new (λ p. TakesTo caller at old p loan loan' s)
-
--- the result of taking an object back into the pool in a handle
-abbrev pub TakesBackIn : ℕ → ℕ → Loan → Option OpenModel → Option OpenModel → Status → Type 0
-TakesBackIn caller at loan None new s = (s ≡ NotOpen) × (new ≡ None)
-TakesBackIn caller at loan (Some old) new s = IsSomeAnd new (λ p. TakesBackTo caller at loan old p s)
-
--- the result of checking a returned object of the pool in a handle
-abbrev pub ChecksIn : ℕ → ℕ → ℕ → Option OpenModel → Option OpenModel → Status → Type 0
-ChecksIn caller at id None new s = (s ≡ NotOpen) × (new ≡ None)
-ChecksIn caller at id (Some old) new s = IsSomeAnd new (λ p. ChecksTo caller at id old p s)
-
 -- the result of beginning a call of the pool in a handle
 abbrev pub BeginsIn : CallStart → Option OpenModel → Option OpenModel → HostCall → HostCall → CallEffects → CallEffects → Status → Type 0
 BeginsIn start None new host host' out out' s = (s ≡ NotOpen) × (new ≡ None) × (host' ≡ host) × (out' ≡ out)

@@ -3,7 +3,7 @@ use Rattle.std.specs.Prelude.{ℕ}
 use Rattle.pool_settings.specs.declared.fault.SettingsFault.{SettingsFault}
 use Rattle.pool_settings.specs.declared.fault.SettingsFault.TheVariants as faults
 use Rattle.zuphinka.specs.declared.status.Status.{Status}
-use Rattle.zuphinka.specs.declared.status.Status.TheVariants.{Done, NotOpen, AlreadyOpen, OutOfMemory, JournalFull, BadRequest, NoEntry, NoRoom, NotText, NotToml, UnknownKey, WrongType, OutOfRange, NoCall, Misfit, NoWake, NotAtOnce, AtOnce}
+use Rattle.zuphinka.specs.declared.status.Status.TheVariants.{Done, NotOpen, AlreadyOpen, OutOfMemory, JournalFull, BadRequest, NoEntry, NoRoom, NotText, NotToml, UnknownKey, WrongType, OutOfRange, NoCall, Misfit, NoWake, AtOnce}
 
 abbrev pub status_code : Status → ℕ
 status_code Done = 0
@@ -22,8 +22,7 @@ status_code OutOfRange = 12
 status_code NoCall = 13
 status_code Misfit = 14
 status_code NoWake = 15
-status_code NotAtOnce = 16
-status_code AtOnce = 17
+status_code AtOnce = 16
 
 -- the status of an error in settings
 abbrev pub fault_status : SettingsFault → Status

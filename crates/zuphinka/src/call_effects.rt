@@ -117,7 +117,7 @@ impl CallEffects {
         (self.end == 1 || self.end == 10) && !self.has_wake
     }
 
-    /// Tells the host, and returns the status. Of a call that is over at once it reads the object alone.
+    /// Tells the host, and returns the status. Of a call that is over at once it reads the object and the end alone.
     #[inline(always)]
     pub(crate) fn tell(self, read: &mut CallEffects) -> Status
         ensures status { result ≡ status_told (is_quiet self) }
@@ -126,6 +126,7 @@ impl CallEffects {
         if self.is_quiet() {
             read.number = self.number;
             read.object = self.object;
+            read.end = self.end;
             Status::AtOnce
         } else {
             *read = self;

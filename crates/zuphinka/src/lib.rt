@@ -2,7 +2,7 @@
 #![tactic(auto)]
 
 ghost use Rattle.std.specs.Prelude.{◌≡◌, None, IsSomeAnd};
-ghost use Rattle.zuphinka.specs.Calling.{AdvancesIn, BeginsIn, ChecksIn, LendsIn, LimitsIn, ReadsState, TakesBackIn, TakesIn, TellsLent, WakesIn};
+ghost use Rattle.zuphinka.specs.Calling.{AdvancesIn, BeginsIn, LimitsIn, ReadsState, TellsLent, WakesIn};
 ghost use Rattle.zuphinka.specs.Calls.{Came, Opens, OpensWith, Steps, IsCompleting, Reads, TellsSteps, TellsRoom, Lines, BaseLines, Cuts};
 ghost use Rattle.zuphinka.specs.Counting.{ReportsCounts};
 ghost use Rattle.zuphinka.specs.Opening.{KeepsCalls, core_in, no_options};
@@ -18,7 +18,6 @@ mod event;
 mod handle;
 mod host_call;
 mod lines;
-mod loan;
 mod open_pool;
 mod parts;
 mod pool;
@@ -35,7 +34,6 @@ use call_effects::CallEffects;
 use event::CallEvent;
 use handle::Handle;
 use host_call::HostCall;
-use loan::Loan;
 use pool_options::PoolOptions;
 use pool_settings::Settings;
 use pool_state::PoolState;
@@ -273,83 +271,6 @@ pub extern "C" fn zuphinka_advance(
         return Status::NotOpen.code();
     };
     let status = held.advance(call, event, effects);
-    pool.put(held);
-    status.code()
-}
-
-/// Lends an idle object at once, and stores its id and its token in `loan`; or says that the borrow is to be begun.
-#[unsafe(no_mangle)]
-pub extern "C" fn zuphinka_lend(
-    alloc: Global,
-    pool: &mut Handle,
-    caller: u32,
-    at: u64,
-    loan: &mut Loan,
-) -> u32
-    ensures { Came result (LendsIn caller at pool.old.held pool.new.held loan.old loan.new) }
-{
-    let Some(mut held) = pool.take(alloc) else {
-        return Status::NotOpen.code();
-    };
-    let status = held.lend(caller, at, loan);
-    pool.put(held);
-    status.code()
-}
-
-/// Takes an idle object by the first step of a borrow, and stores its id and its token in `loan`; or says that the borrow is to
-/// be begun.
-#[unsafe(no_mangle)]
-pub extern "C" fn zuphinka_take(
-    alloc: Global,
-    pool: &mut Handle,
-    caller: u32,
-    at: u64,
-    loan: &mut Loan,
-) -> u32
-    ensures { Came result (TakesIn caller at pool.old.held pool.new.held loan.old loan.new) }
-{
-    let Some(mut held) = pool.take(alloc) else {
-        return Status::NotOpen.code();
-    };
-    let status = held.take(caller, at, loan);
-    pool.put(held);
-    status.code()
-}
-
-/// Takes the object of `loan` back at once, or says that its return is to be begun.
-#[unsafe(no_mangle)]
-pub extern "C" fn zuphinka_take_back(
-    alloc: Global,
-    pool: &mut Handle,
-    caller: u32,
-    at: u64,
-    loan: &Loan,
-) -> u32
-    ensures { Came result (TakesBackIn caller at loan.now pool.old.held pool.new.held) }
-{
-    let Some(mut held) = pool.take(alloc) else {
-        return Status::NotOpen.code();
-    };
-    let status = held.take_back(caller, at, loan);
-    pool.put(held);
-    status.code()
-}
-
-/// Has the lent object with this id checked, by the first step of its return, or says that its return is to be begun.
-#[unsafe(no_mangle)]
-pub extern "C" fn zuphinka_check(
-    alloc: Global,
-    pool: &mut Handle,
-    caller: u32,
-    at: u64,
-    id: u64,
-) -> u32
-    ensures { Came result (ChecksIn caller at id pool.old.held pool.new.held) }
-{
-    let Some(mut held) = pool.take(alloc) else {
-        return Status::NotOpen.code();
-    };
-    let status = held.check(caller, at, id);
     pool.put(held);
     status.code()
 }

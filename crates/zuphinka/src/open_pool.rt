@@ -1,10 +1,9 @@
 //! A pool for C: what each export of the library works on.
 ghost use Rattle.std.specs.Prelude.{◌≡◌, IfOk};
 ghost use Rattle.pool_driver.specs.Driving.{Opened};
-ghost use Rattle.zuphinka.specs.Calling.{ChecksTo, LendsTo, LimitsOvertakes, ReportsState, TakesBackTo, TakesTo, WakesTo, ends_loan, is_lent_in, running_with};
+ghost use Rattle.zuphinka.specs.Calling.{LimitsOvertakes, ReportsState, WakesTo, ends_loan, is_lent_in, running_with};
 ghost use Rattle.zuphinka.specs.Opening.{options_of};
 
-use crate::loan::Loan;
 use crate::pool_options::PoolOptions;
 use crate::pool_state::PoolState;
 use crate::status::Status;
@@ -89,57 +88,6 @@ impl OpenPool {
         ensures { result.now ≡ self.now.driven.core }
     {
         self.driven.core()
-    }
-
-    /// Lends an idle object at once.
-    pub(crate) fn lend(&mut self, caller: u32, at: u64, loan: &mut Loan) -> Status
-        ensures { LendsTo caller at self.old self.new loan.old loan.new result }
-    {
-        match self.driven.lend_at_once(caller, at) {
-            Some((id, object)) => {
-                *loan = Loan { id, object };
-                Status::Done
-            }
-            None => Status::NotAtOnce,
-        }
-    }
-
-    /// Takes an idle object by the first step of a borrow.
-    pub(crate) fn take(&mut self, caller: u32, at: u64, loan: &mut Loan) -> Status
-        ensures { TakesTo caller at self.old self.new loan.old loan.new result }
-    {
-        match self.driven.take_at_once(caller, at) {
-            Some((id, token)) => {
-                *loan = Loan { id, object: token };
-                Status::Done
-            }
-            None => Status::NotAtOnce,
-        }
-    }
-
-    /// Takes a lent object back at once.
-    pub(crate) fn take_back(&mut self, caller: u32, at: u64, loan: &Loan) -> Status
-        ensures { TakesBackTo caller at loan.now self.old self.new result }
-    {
-        if self
-            .driven
-            .take_back_at_once(caller, at, loan.id, loan.object)
-        {
-            Status::Done
-        } else {
-            Status::NotAtOnce
-        }
-    }
-
-    /// Has a lent object checked by the first step of its return.
-    pub(crate) fn check(&mut self, caller: u32, at: u64, id: u64) -> Status
-        ensures { ChecksTo caller at id self.old self.new result }
-    {
-        if self.driven.check_at_once(caller, at, id) {
-            Status::Done
-        } else {
-            Status::NotAtOnce
-        }
     }
 
     /// Stores the ticket of the next call to wake, if there is one.

@@ -39,8 +39,6 @@ pub(crate) enum Status {
     Misfit,
     /// No call is to be woken.
     NoWake,
-    /// The call is not over at once: it is to be begun.
-    NotAtOnce,
     /// The call is over: its object is lent, or idle, and no call is to be woken.
     AtOnce,
 }
@@ -66,8 +64,7 @@ impl Status {
             Status::NoCall => 13,
             Status::Misfit => 14,
             Status::NoWake => 15,
-            Status::NotAtOnce => 16,
-            Status::AtOnce => 17,
+            Status::AtOnce => 16,
         }
     }
 }

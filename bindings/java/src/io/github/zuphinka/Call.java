@@ -142,11 +142,6 @@ final class Call<T> {
         return action == Core.ACTION_DONE;
     }
 
-    /** Returns how it ends if it is over at once. */
-    int endAtOnce() {
-        return kind == Core.KIND_BORROW ? Core.END_LENT : Core.END_PARKED;
-    }
-
     /** Returns whether it has lent its object, or that is idle by its return, and there is nothing left to do. */
     boolean isPlain() {
         boolean isGood = kind == Core.KIND_BORROW && end == Core.END_LENT || kind == Core.KIND_RETURN && end == Core.END_PARKED;

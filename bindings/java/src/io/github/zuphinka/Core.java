@@ -6,7 +6,7 @@ import java.nio.ByteBuffer;
  * The native methods of the proved core, and the codes of its calls. The caller holds the lock of the pool, where nothing else is said.
  *
  * <p>A reply is one number: the {@link #action}, the {@link #end}, whether there are more {@link #details}, and the {@link #token}; or a negative
- * status. That of a borrow or a return that is over {@link #isAtOnce at once} has its token alone: the object is lent, or idle, and nobody is to be woken.
+ * status. That of a borrow or a return that is over at once has no details: the object is lent, or idle, and nobody is to be woken.
  */
 final class Core {
     static final int KIND_BORROW = 1;
@@ -119,14 +119,9 @@ final class Core {
         return (reply & HAS_UNTIL) != 0;
     }
 
-    /** Returns whether a borrow or a return is over, and nobody is to be woken. */
-    static boolean isAtOnce(long reply) {
-        return (reply & AT_ONCE) != 0;
-    }
-
-    /** Returns whether the same is true, and objects were not reclaimed. */
+    /** Returns whether a borrow or a return is over at once, and objects were not reclaimed. */
     static boolean isPlainEnd(long reply) {
-        return (reply & 0xff_ffff & ~IS_LOW) == AT_ONCE;
+        return (reply & 0xff_0000 & ~IS_LOW) == AT_ONCE;
     }
 
     /** Returns whether an object is to be activated, tested or passivated next, nobody is to be woken, and objects were not reclaimed. */

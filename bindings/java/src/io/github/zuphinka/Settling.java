@@ -159,9 +159,8 @@ final class Settling<T> {
     }
 
     private Member<T> takeUpOnce(Call<T> call, long reply, long now) {
-        boolean isAtOnce = Core.isAtOnce(reply);
-        call.action = isAtOnce ? Core.ACTION_DONE : Core.action(reply);
-        call.end = isAtOnce ? call.endAtOnce() : Core.end(reply);
+        call.action = Core.action(reply);
+        call.end = Core.end(reply);
         if (call.action == Core.ACTION_SLEEP) {
             limitSleep(call, reply);
         }
