@@ -29,9 +29,8 @@ final class Calls<T> {
         long moreMillis = longestNanos < 0 ? 0 : CoreSettings.MOST_MILLIS;
         long limitNanos = longestNanos < 0 ? Long.MAX_VALUE : longestNanos;
         for (;;) {
-            uses.noteForBorrow(first, longestNanos);
             Call<T> call;
-            long reply = sections.begin(Core.KIND_BORROW, caller, first, moreMillis, 0, 0);
+            long reply = begin(caller, first, moreMillis, longestNanos);
             try {
                 sections.see(caller);
                 if (Core.isPlainEnd(reply)) {
@@ -51,6 +50,32 @@ final class Calls<T> {
                 return lent;
             }
             limitNanos = longestNanos < 0 ? sections.settings().maxWaitNanos : longestNanos; // the core counts from now on
+        }
+    }
+
+    /** Begins a borrow as {@link Sections#begin} does, once lent objects were asked when they were last used if it may reclaim them. */
+    private long begin(int caller, long first, long moreMillis, long longestNanos) throws Exception {
+        for (;;) {
+            CoreSettings<T> of = sections.settings();
+            boolean isHeld = uses.mayReclaim(of);
+            if (isHeld) {
+                takeAsked(first, longestNanos);
+            }
+            long reply = sections.begin(Core.KIND_BORROW, caller, first, moreMillis, 0, isHeld ? 0 : of.number, isHeld);
+            if (reply != Core.OTHER_SETTINGS) {
+                return reply;
+            }
+            sections.release();
+        }
+    }
+
+    /** Takes the lock, once lent objects were asked if a borrow that begins then is to ask them. */
+    private void takeAsked(long first, long longestNanos) throws Exception {
+        sections.take();
+        if (uses.isToAsk()) {
+            sections.release();
+            uses.note(Core.KIND_BORROW, first, longestNanos);
+            sections.take();
         }
     }
 
@@ -102,7 +127,7 @@ final class Calls<T> {
         long now = System.nanoTime();
         int kind = of.isTooOld(member, now) ? Core.KIND_INVALIDATE : Core.KIND_RETURN;
         Call<T> call;
-        long reply = sections.begin(kind, caller, now, member.id, member.slot, of.number);
+        long reply = sections.begin(kind, caller, now, member.id, member.slot, of.number, false);
         try {
             if (reply == Core.OTHER_SETTINGS) {
                 return false;

@@ -155,14 +155,14 @@ final class Sections<T> {
     // Steps of calls.
 
     /**
-     * Begins a call of a thread for the settings with this number, or for any if it is 0, and takes the lock for that: it is held if this returns a reply, or
-     * that there are other settings.
+     * Begins a call of a thread for the settings with this number, or for any if it is 0, and takes the lock for that unless it is held. It is then if this
+     * returns a reply, or that there are other settings.
      *
      * @throws StackOverflowError as {@link #requireStack} does
      */
-    long begin(int kind, int caller, long now, long id, long token, int number) {
+    long begin(int kind, int caller, long now, long id, long token, int number, boolean isHeld) {
         long at = millis(now);
-        long reply = Core.begin(core, at, id, token, caller, kind, number, false);
+        long reply = Core.begin(core, at, id, token, caller, kind, number, isHeld);
         if (reply == Core.BUSY) {
             lock.takeLater();
             reply = Core.begin(core, at, id, token, caller, kind, number, true);

@@ -44,20 +44,20 @@ final class TrackedUses<T> {
         return ((TrackedUse) member.pooled.getObject()).getLastUsedInstant();
     }
 
-    /**
-     * Notes the uses of lent objects, for a borrow with a limit that may reclaim those that know themselves when they were last used: idle objects and
-     * places are scarce, or may be once the journal has room.
-     */
-    void noteForBorrow(long first, long longestNanos) throws Exception {
-        if (sections.settings().reclaimsOnBorrow && work.hasTracked() && sections.locked(this::isNearLimit)) {
-            note(Core.KIND_BORROW, first, longestNanos);
-        }
+    /** Returns whether a borrow by these settings may reclaim objects that know themselves when they were last used. */
+    boolean mayReclaim(CoreSettings<T> of) {
+        return of.reclaimsOnBorrow && work.hasTracked();
     }
 
-    private boolean isNearLimit() {
+    /**
+     * Returns whether one that begins now may: idle objects and places are scarce, or may be once the journal has room. The caller holds the lock of the
+     * pool, and keeps it until the borrow has begun.
+     */
+    boolean isToAsk() {
         Counts now = sections.journal.latest();
         int maxTotal = sections.settings().maxTotal;
-        return now.idle() < 2 && (maxTotal < 0 || now.lent() + now.reserved() > maxTotal - 3) || now.room() == 0;
+        boolean isNearLimit = now.idle() < 2 && (maxTotal < 0 || now.lent() + now.reserved() > maxTotal - 3);
+        return mayReclaim(sections.settings()) && (isNearLimit || now.room() == 0);
     }
 
     /** Notes the uses of all lent objects that may be abandoned soon, for a borrow with a limit or another call. */
