@@ -20,7 +20,7 @@ use connections::{Connection, Connector};
 use error::WorkError;
 use pool_core::Core;
 use pool_settings::Settings;
-use pool_shared::{Caller, Room, SharedPool, Site};
+use pool_shared::{Caller, PoolBrand, SharedPool, UnopenedPool};
 use std::alloc::Global;
 use std::convert::Infallible;
 use std::marker::Brand;
@@ -54,7 +54,7 @@ struct Outcome {
 }
 
 // Runs all workers, each in its own thread, and collects their callers and results.
-fn work_all<B: Room + Send + Sync, R: Threads + Wait + Sync>(
+fn work_all<B: PoolBrand + Send + Sync, R: Threads + Wait + Sync>(
     rt: &R,
     archive: &Archive<'_>,
     pool: &Connections<B>,
@@ -75,7 +75,7 @@ fn work_all<B: Room + Send + Sync, R: Threads + Wait + Sync>(
 }
 
 // Closes the pool, and archives the entries that are left. Returns their number.
-fn close<B: Room, R: Wait>(
+fn close<B: PoolBrand, R: Wait>(
     rt: &R,
     archive: &Archive<'_>,
     pool: &Connections<B>,
@@ -98,20 +98,20 @@ fn outcome_of(core: &Core<Connection>, tally: Tally, rest: u64) -> Outcome {
 
 // Runs the pool, with a caller for each worker and one for the keeper. The type `B` names this one pool, so the
 // compiler knows that the callers are those of this pool.
-fn live<B: Room + Send + Sync, R: Threads + Wait + Sync>(
+fn live<B: PoolBrand + Send + Sync, R: Threads + Wait + Sync>(
     rt: &R,
     alloc: Global,
-    site: Site,
+    unopened: UnopenedPool,
     settings: Settings,
     uptime: Uptime,
     archive: &Archive<'_>,
 ) -> Result<Outcome, WorkError>
-    requires { (site ≡ B.table) × (settings ≡ B.settings) × (5 ≡ B.callers) }
+    requires { (unopened ≡ B.table) × (settings ≡ B.settings) × (5 ≡ B.callers) }
 {
     let (pool, mut callers) = Connections::<B>::open(
         rt,
         alloc,
-        site,
+        unopened,
         settings,
         NUMBER,
         WORKERS + 1,
@@ -138,9 +138,9 @@ fn main(rt: HostRuntime) -> Result<(), WorkError> {
     };
     let archive = Archive::new(&rt, folder.as_str());
     archive.write_new("archive.toml", SETTINGS.as_bytes())?;
-    let site = Site::new(rt.alloc())?;
+    let unopened = UnopenedPool::new(rt.alloc())?;
     let uptime = Uptime::start(&rt)?;
-    let outcome = live::<Brand, _>(&rt, rt.alloc(), site, settings, uptime, &archive)?;
+    let outcome = live::<Brand, _>(&rt, rt.alloc(), unopened, settings, uptime, &archive)?;
     println!(rt; "requests answered: {}", outcome.answered)?;
     println!(rt; "connections still open: {}", outcome.still_open)?;
     let missing = outcome.entries.abs_diff(outcome.archived);

@@ -4,7 +4,7 @@ use crate::Connections;
 use crate::archive::Archive;
 use crate::connections::Connection;
 use crate::error::WorkError;
-use pool_shared::{AddFault, BorrowFault, Caller, Lent, Room};
+use pool_shared::{AddFault, BorrowFault, Caller, Lent, PoolBrand};
 use std::sync::Wait;
 
 /// The number of requests that each worker answers.
@@ -28,7 +28,7 @@ pub struct Tally {
 
 // Borrows a connection. If the journal has no room for that, archives it, unless another worker has just done so. Other
 // workers may have filled it again by the next try.
-fn borrow<B: Room, R: Wait>(
+fn borrow<B: PoolBrand, R: Wait>(
     rt: &R,
     archive: &Archive<'_>,
     pool: &Connections<B>,
@@ -50,7 +50,7 @@ fn borrow<B: Room, R: Wait>(
 
 // Maintains the pool, and archives its journal if little room is left. Maintenance that finds no room is left to the
 // next worker.
-fn look_after<B: Room, R: Wait>(
+fn look_after<B: PoolBrand, R: Wait>(
     rt: &R,
     archive: &Archive<'_>,
     pool: &Connections<B>,
@@ -64,7 +64,7 @@ fn look_after<B: Room, R: Wait>(
 
 /// Answers requests, each over a connection that it borrows for that, and looks after the pool now and then. Returns
 /// the caller and its tally.
-pub fn work<B: Room, R: Wait>(
+pub fn work<B: PoolBrand, R: Wait>(
     rt: &R,
     archive: &Archive<'_>,
     pool: &Connections<B>,

@@ -4,7 +4,7 @@ use crate::Bank;
 use crate::books::Order;
 use crate::connections::Connected;
 use crate::error::DayError;
-use pool_shared::{Caller, Factory, Room};
+use pool_shared::{Caller, Factory, PoolBrand};
 use sqlite::Error;
 use std::sync::Wait;
 
@@ -45,7 +45,7 @@ fn order_of(clerk: u32) -> Order {
 
 // Borrows a connection, executes an order over it, and returns it to the pool. Returns whether the order was executed.
 // If it was not, the connection is destroyed, and nothing has changed.
-fn try_order<L: Connected, F: Factory<L, Error> + Drop, B: Room, R: Wait>(
+fn try_order<L: Connected, F: Factory<L, Error> + Drop, B: PoolBrand, R: Wait>(
     rt: &R,
     bank: &Bank<L, F, B>,
     me: &mut Caller<B>,
@@ -75,7 +75,7 @@ fn try_order<L: Connected, F: Factory<L, Error> + Drop, B: Room, R: Wait>(
 
 /// Executes all orders of a clerk, each over a connection that it borrows for that. If the connection breaks, it
 /// executes the order over another one. Returns the clerk's caller.
-pub fn work<L: Connected, F: Factory<L, Error> + Drop, B: Room, R: Wait>(
+pub fn work<L: Connected, F: Factory<L, Error> + Drop, B: PoolBrand, R: Wait>(
     rt: &R,
     bank: &Bank<L, F, B>,
     me: Caller<B>,

@@ -26,7 +26,7 @@ use error::DayError;
 use pool_core::Core;
 use pool_journal::print_entry;
 use pool_settings::Settings;
-use pool_shared::{Caller, Factory, Room, SharedPool, Site};
+use pool_shared::{Caller, Factory, PoolBrand, SharedPool, UnopenedPool};
 use sqlite::{Alter, Connection, Error};
 use std::alloc::Global;
 use std::marker::Brand;
@@ -66,7 +66,7 @@ type Bank<L, F, B> = SharedPool<L, Error, F, OfficeClock, B>;
 fn work_all<
     L: Connected,
     F: Factory<L, Error> + Send + Drop,
-    B: Room + Send + Sync,
+    B: PoolBrand + Send + Sync,
     R: Threads + Wait + Sync,
 >(
     rt: &R,
@@ -85,7 +85,7 @@ fn work_all<
 fn keep_open<
     L: Connected,
     F: Factory<L, Error> + Send + Drop,
-    B: Room + Send + Sync,
+    B: PoolBrand + Send + Sync,
     R: Threads + Wait + Sync,
 >(
     rt: &R,
@@ -110,28 +110,29 @@ fn keep_open<
 fn day<
     L: Connected,
     F: Factory<L, Error> + Send + Drop,
-    B: Room + Send + Sync,
+    B: PoolBrand + Send + Sync,
     R: Threads + Wait + Sync,
 >(
     rt: &R,
     alloc: Global,
-    site: Site,
+    unopened: UnopenedPool,
     settings: Settings,
     opener: F,
     clock: OfficeClock,
 ) -> Result<Core<L>, DayError>
-    requires { (site ≡ B.table) × (settings ≡ B.settings) × (5 ≡ B.callers) }
+    requires { (unopened ≡ B.table) × (settings ≡ B.settings) × (5 ≡ B.callers) }
 {
     let (bank, mut callers) = Bank::<L, F, B>::open(
         rt,
         alloc,
-        site,
+        unopened,
         settings,
         NUMBER,
         CLERKS + 1,
         opener,
         clock,
-    ).map_err(|_| DayError::NotOpened)?;
+    )
+    .map_err(|_| DayError::NotOpened)?;
     let mut manager = callers.pop().ok_or(DayError::CallerMissing)?;
     let mut back = keep_open(rt, alloc, &bank, &mut manager, callers, clock)?;
     back.push(manager)?;
@@ -218,13 +219,13 @@ fn keep_books<
     R: Threads + Wait + Sync,
 >(rt: &HostRuntime, threads: &R, settings: Settings, store: H) -> Result<(), DayError> {
     found::<S, H>(rt, &store)?;
-    let site = Site::new(rt.alloc())?;
+    let unopened = UnopenedPool::new(rt.alloc())?;
     let opener = Opener::new(&store);
     let clock = OfficeClock::start(rt)?;
     let core = day::<Link<S>, Opener<H>, Brand, R>(
         threads,
         rt.alloc(),
-        site,
+        unopened,
         settings,
         opener,
         clock,

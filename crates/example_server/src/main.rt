@@ -19,7 +19,7 @@ use judging::is_legal;
 use pool_core::Core;
 use pool_journal::{Entry, Input};
 use pool_settings::Settings;
-use pool_shared::{Caller, Clock, Room, SharedPool, Site};
+use pool_shared::{Caller, Clock, PoolBrand, SharedPool, UnopenedPool};
 use serving::serve;
 use std::alloc::Global;
 use std::marker::Brand;
@@ -71,7 +71,7 @@ struct Evening {
 }
 
 // Runs all servers, each in its own thread. Returns their callers, and the number of answered requests.
-fn serve_all<B: Room + Send + Sync, R: Threads + Wait + Sync>(
+fn serve_all<B: PoolBrand + Send + Sync, R: Threads + Wait + Sync>(
     rt: &R,
     alloc: Global,
     pool: &Connections<B>,
@@ -89,20 +89,20 @@ fn serve_all<B: Room + Send + Sync, R: Threads + Wait + Sync>(
 
 // Runs a day of the pool, with a caller for each server and one for the keeper. The type `B` names this one pool, so
 // the compiler knows that the callers are those of this pool.
-fn day<B: Room + Send + Sync, R: Threads + Wait + Sync>(
+fn day<B: PoolBrand + Send + Sync, R: Threads + Wait + Sync>(
     rt: &R,
     alloc: Global,
-    site: Site,
+    unopened: UnopenedPool,
     settings: Settings,
     moment: &AtomicU64,
 ) -> Result<Evening, DayError>
-    requires { (site ≡ B.table) × (settings ≡ B.settings) × (5 ≡ B.callers) }
+    requires { (unopened ≡ B.table) × (settings ≡ B.settings) × (5 ≡ B.callers) }
 {
     let watch = Watch { moment };
     let (pool, mut callers) = Connections::<B>::open(
         rt,
         alloc,
-        site,
+        unopened,
         settings,
         NUMBER,
         SERVERS + 1,
@@ -147,9 +147,9 @@ fn report(rt: &HostRuntime, settings: Settings, evening: &Evening) -> Result<(),
 }
 
 fn main(rt: HostRuntime) -> Result<(), DayError> {
-    let site = Site::new(rt.alloc())?;
+    let unopened = UnopenedPool::new(rt.alloc())?;
     let settings = Settings::from_text(rt.alloc(), SETTINGS)?;
     let moment = AtomicU64::new(MORNING);
-    let evening = day::<Brand, _>(&rt, rt.alloc(), site, settings, &moment)?;
+    let evening = day::<Brand, _>(&rt, rt.alloc(), unopened, settings, &moment)?;
     report(&rt, settings, &evening)
 }

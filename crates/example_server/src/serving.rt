@@ -3,7 +3,7 @@
 use crate::Connections;
 use crate::connections::Request;
 use crate::error::DayError;
-use pool_shared::{Caller, Room};
+use pool_shared::{Caller, PoolBrand};
 use std::sync::Wait;
 
 /// The number of requests that each server answers.
@@ -24,7 +24,7 @@ fn forgets(server: u32, request: u32) -> bool {
 
 /// Answers requests, each over a connection that it borrows for that. Returns the caller, and the number of answered
 /// requests.
-pub fn serve<B: Room, R: Wait>(
+pub fn serve<B: PoolBrand, R: Wait>(
     rt: &R,
     pool: &Connections<B>,
     me: Caller<B>,

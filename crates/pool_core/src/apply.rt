@@ -6,7 +6,7 @@ ghost use Rattle.pool_places.specs.PlacesModel.{records_in};
 ghost use Rattle.pool_stats.specs.Ended.{MayGrow};
 ghost use Rattle.pool_core.specs.Reply.{reply_from_records};
 
-use crate::marks::{closes, examined, id_in, next_after};
+use crate::object_names::{closes, examined, id_in, next_after};
 use crate::room::made_as;
 use crate::state::{State, StepContext};
 use pool_journal::{Answer, Input, Phase};

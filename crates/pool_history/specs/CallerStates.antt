@@ -6,8 +6,8 @@ use Rattle.pool_settings.specs.declared.settings.Settings.{Settings}
 use Rattle.pool_core.specs.Legal.{IsLegal}
 use Rattle.pool_history.specs.Ownership.{IsOwnerRespecting, NoneMisused}
 use Rattle.pool_history.specs.Segments.{EachFitted}
-use Rattle.pool_history.specs.declared.room.Fragment.{Fragment}
-use Rattle.pool_history.specs.declared.room.View.{View}
+use Rattle.pool_history.specs.declared.brands.Fragment.{Fragment}
+use Rattle.pool_history.specs.declared.brands.View.{View}
 use Rattle.pool_history.specs.CellInvariant.{entries_with_number, fragments_only, fragment, IsPrefix}
 
 -- the state of a caller: its number, the entries that it has observed and those that it has appended, its number of cuts, and

@@ -4,7 +4,7 @@ ghost use Rattle.crossbeam_utils.specs.Register.{Forks, Merges, Turns};
 ghost use Rattle.crossbeam_utils.specs.Seq.{cell_view, IsSamePass};
 ghost use Rattle.pool_history.specs.CellInvariant.{HasCellInvariant, beginner};
 
-use crate::room::{CountsPass, HistoryProtocol, View};
+use crate::brands::{CountsPass, HistoryProtocol, View};
 use atomic_table::{Join, Split};
 use crossbeam_utils::atomic::seq_cell::RuledSeqCell;
 use crossbeam_utils::rule::Outcome;

@@ -13,7 +13,7 @@ pub use gate::Gate;
 pub use loading::{LoadReport, load};
 pub use pool_engines::{
     CheckFault, EngineFault, FileFault, LoadFault, Segments, Sink, Source, check,
-    check_side_by_side, flush_past_signals, read_past_signals, read_settings, run,
+    check_in_parallel, flush_past_signals, read_past_signals, read_settings, run,
     runs_are_determined, stats, write_past_signals, write_report,
 };
 pub use rounds::work;

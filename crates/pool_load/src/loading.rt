@@ -13,7 +13,7 @@ use crate::workers::{collect_all, work_all};
 use pool_core::Core;
 use pool_engines::LoadFault;
 use pool_settings::Settings;
-use pool_shared::{Caller, OpenFault, Room, Site};
+use pool_shared::{Caller, OpenFault, PoolBrand, UnopenedPool};
 use pool_stats::Statistics;
 use std::alloc::Global;
 use std::marker::Brand;
@@ -65,23 +65,23 @@ pub fn load<G: Gate, R: Threads + Wait + Sync>(
     if rounds == 0 || rounds > MOST_ROUNDS {
         return Err(LoadFault::RoundCount);
     }
-    match Site::new(alloc) {
-        Ok(site) => load_on::<Brand, G, R>(rt, alloc, site, settings, workers, rounds, gate),
+    match UnopenedPool::new(alloc) {
+        Ok(pool) => load_on::<Brand, G, R>(rt, alloc, pool, settings, workers, rounds, gate),
         Err(_) => Err(LoadFault::OutOfMemory),
     }
 }
 
-/// Runs the load of a pool on the cell of `site`.
-fn load_on<B: Room + Send + Sync, G: Gate, R: Threads + Wait + Sync>(
+/// Runs the load of a pool on the cell of `unopened`.
+fn load_on<B: PoolBrand + Send + Sync, G: Gate, R: Threads + Wait + Sync>(
     rt: &R,
     alloc: Global,
-    site: Site,
+    unopened: UnopenedPool,
     settings: Settings,
     workers: u32,
     rounds: u64,
     gate: &G,
 ) -> Result<LoadReport, LoadFault>
-    requires room { (site ≡ B.table) × (settings ≡ B.settings) × (workers + 1 ≡ B.callers) }
+    requires room { (unopened ≡ B.table) × (settings ≡ B.settings) × (workers + 1 ≡ B.callers) }
     requires range { IsInRange workers rounds }
     ensures load { IfOk result (λ r. IsLoad settings workers rounds r.refused r.stats) }
     ensures stops { IfErr result (StopsLoad settings workers rounds) }
@@ -90,7 +90,7 @@ fn load_on<B: Room + Send + Sync, G: Gate, R: Threads + Wait + Sync>(
     let (pool, mut callers) = match IdPool::<B>::open(
         rt,
         alloc,
-        site,
+        unopened,
         settings,
         0,
         callers,
@@ -116,7 +116,7 @@ fn load_on<B: Room + Send + Sync, G: Gate, R: Threads + Wait + Sync>(
 
 /// Lets each caller work in its own thread, and then the last one close the pool. Returns the number of refused borrows
 /// or the error of a worker, and all callers.
-fn work_and_close<B: Room + Send + Sync, G: Gate, R: Threads + Wait + Sync>(
+fn work_and_close<B: PoolBrand + Send + Sync, G: Gate, R: Threads + Wait + Sync>(
     rt: &R,
     alloc: Global,
     pool: &IdPool<B>,
@@ -142,7 +142,7 @@ fn work_and_close<B: Room + Send + Sync, G: Gate, R: Threads + Wait + Sync>(
 }
 
 /// Lets the last caller close the pool. The history of the load shows that this does not fail: no worker closes it.
-fn close<B: Room, R: Wait>(rt: &R, pool: &IdPool<B>, last: &mut Caller<B>)
+fn close<B: PoolBrand, R: Wait>(rt: &R, pool: &IdPool<B>, last: &mut Caller<B>)
     ensures advances { Advances B.settings last.old last.new }
     ensures spec { (result : Result ℕ PoolFault) × CloseSpec B.settings result last.old last.new }
 {

@@ -5,7 +5,7 @@ ghost use Rattle.pool_load.specs.Rounds.{MakesRound, MakesRounds, IsNonResourceE
 
 use crate::gate::Gate;
 use pool_engines::LoadFault;
-use pool_shared::{BorrowFault, Caller, Clock, Factory, ReturnFault, Room, SharedPool};
+use pool_shared::{BorrowFault, Caller, Clock, Factory, PoolBrand, ReturnFault, SharedPool};
 use std::sync::Wait;
 
 /// Passes over a refused borrow. If a borrow failed for lack of room or memory, the worker stops.
@@ -21,7 +21,15 @@ fn pass_over<E>(fault: &BorrowFault<E>) -> Result<(), LoadFault>
 }
 
 /// Makes one round. Returns the number of refused borrows in it: 0 or 1.
-fn round<T: Drop, E: Drop, F: Factory<T, E> + Drop, C: Clock + Drop, B: Room, G: Gate, R: Wait>(
+fn round<
+    T: Drop,
+    E: Drop,
+    F: Factory<T, E> + Drop,
+    C: Clock + Drop,
+    B: PoolBrand,
+    G: Gate,
+    R: Wait,
+>(
     rt: &R,
     pool: &SharedPool<T, E, F, C, B>,
     gate: &G,
@@ -58,7 +66,15 @@ fn round<T: Drop, E: Drop, F: Factory<T, E> + Drop, C: Clock + Drop, B: Room, G:
 ///
 /// `JournalFull` and `OutOfMemory`, if a critical section of a borrow or of a return failed with that error; the rounds
 /// end then.
-pub fn work<T: Drop, E: Drop, F: Factory<T, E> + Drop, C: Clock + Drop, B: Room, G: Gate, R: Wait>(
+pub fn work<
+    T: Drop,
+    E: Drop,
+    F: Factory<T, E> + Drop,
+    C: Clock + Drop,
+    B: PoolBrand,
+    G: Gate,
+    R: Wait,
+>(
     rt: &R,
     pool: &SharedPool<T, E, F, C, B>,
     gate: &G,

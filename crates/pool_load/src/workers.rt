@@ -7,7 +7,7 @@ use crate::ids::IdPool;
 use crate::rounds::work;
 use crate::starting::Start;
 use pool_engines::LoadFault;
-use pool_shared::{Caller, Room};
+use pool_shared::{Caller, PoolBrand};
 use std::alloc::Global;
 use std::snapshot::Snapshot;
 use std::sync::Wait;
@@ -16,26 +16,26 @@ use std::thread::{Promise, PromisedHandle, Scope, Threads};
 
 /// The result of a worker: its caller, and the number of refused borrows or the error that stopped it.
 #[derive(Drop)]
-pub(crate) struct Worked<B: Room> {
+pub(crate) struct Worked<B: PoolBrand> {
     pub(crate) caller: Caller<B>,
     pub(crate) outcome: Result<u64, LoadFault>,
 }
 
 /// Promises that a caller, from its state now, makes this number of rounds.
 #[derive(Drop)]
-struct WorkOf<B: Room> {
+struct WorkOf<B: PoolBrand> {
     before: Snapshot<Caller<B>>,
     rounds: u64,
 }
 
-impl<B: Room> Promise<Worked<B>> for WorkOf<B> {
+impl<B: PoolBrand> Promise<Worked<B>> for WorkOf<B> {
     ghost use Rattle.pool_load.specs.Workers.{Works};
 
     ghost kept_by = { λ p r. Works B.settings p.rounds r.outcome p.before.value r.caller };
 }
 
 /// The body of a worker's thread: it works if that is the signal.
-fn run<B: Room, G: Gate, R: Wait>(
+fn run<B: PoolBrand, G: Gate, R: Wait>(
     rt: &R,
     pool: &IdPool<B>,
     gate: &G,
@@ -54,7 +54,7 @@ fn run<B: Room, G: Gate, R: Wait>(
     Worked { caller, outcome }
 }
 
-fn start_one<'s, E, B: Room + Send + Sync, G: Gate, R: Threads + Wait + Sync>(
+fn start_one<'s, E, B: PoolBrand + Send + Sync, G: Gate, R: Threads + Wait + Sync>(
     scope: &Scope<'s, E>,
     rt: &'s R,
     pool: &'s IdPool<B>,
@@ -77,7 +77,7 @@ fn start_one<'s, E, B: Room + Send + Sync, G: Gate, R: Threads + Wait + Sync>(
 }
 
 /// Starts a thread for each caller, in their order.
-fn start_all<'s, E, B: Room + Send + Sync, G: Gate, R: Threads + Wait + Sync>(
+fn start_all<'s, E, B: PoolBrand + Send + Sync, G: Gate, R: Threads + Wait + Sync>(
     scope: &Scope<'s, E>,
     rt: &'s R,
     alloc: Global,
@@ -107,7 +107,7 @@ fn start_all<'s, E, B: Room + Send + Sync, G: Gate, R: Threads + Wait + Sync>(
 }
 
 /// Starts the workers and joins them.
-fn work_in<'s, E, B: Room + Send + Sync, G: Gate, R: Threads + Wait + Sync>(
+fn work_in<'s, E, B: PoolBrand + Send + Sync, G: Gate, R: Threads + Wait + Sync>(
     scope: &Scope<'s, E>,
     rt: &'s R,
     alloc: Global,
@@ -138,7 +138,7 @@ fn work_in<'s, E, B: Room + Send + Sync, G: Gate, R: Threads + Wait + Sync>(
 ///
 /// `NoThread`, if the system did not create a thread: then no worker has begun. `OutOfMemory`, before the workers begin
 /// or after they have finished.
-pub(crate) fn work_all<B: Room + Send + Sync, G: Gate, R: Threads + Wait + Sync>(
+pub(crate) fn work_all<B: PoolBrand + Send + Sync, G: Gate, R: Threads + Wait + Sync>(
     rt: &R,
     alloc: Global,
     pool: &IdPool<B>,
@@ -183,7 +183,7 @@ fn add(total: Result<u64, LoadFault>, more: Result<u64, LoadFault>) -> Result<u6
 /// # Errors
 ///
 /// `OutOfMemory`.
-pub(crate) fn collect_all<B: Room>(
+pub(crate) fn collect_all<B: PoolBrand>(
     alloc: Global,
     workers: Vec<Worked<B>>,
 ) -> Result<(Result<u64, LoadFault>, Vec<Caller<B>>), LoadFault>

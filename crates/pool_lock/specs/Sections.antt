@@ -21,7 +21,7 @@ use Rattle.pool_core.specs.Laws.{SafetyProperties}
 use Rattle.pool_core.specs.Legal.{IsLegal, entry_of, expected_entry}
 use Rattle.pool_core.specs.Pool.{CoreModel}
 use Rattle.pool_core.specs.Reply.{reply}
-use Rattle.pool_history.specs.declared.room.View.{View}
+use Rattle.pool_history.specs.declared.brands.View.{View}
 use Rattle.pool_history.specs.CellInvariant.{authority}
 use Rattle.pool_history.specs.CallerStates.{CallerState}
 use Rattle.pool_history.specs.Segments.{IsStoredSegment, FitsAfter}

@@ -12,7 +12,7 @@ use Rattle.atomic_table.specs.Seated.{TableId}
 use Rattle.pool_core.specs.Laws.{AtMostMaxTotal}
 use Rattle.pool_core.specs.Legal.{IsLegal, entry_of}
 use Rattle.pool_core.proofs.Lawful.{keeps_laws}
-use Rattle.pool_history.specs.declared.room.View.{View}
+use Rattle.pool_history.specs.declared.brands.View.{View}
 use Rattle.pool_history.specs.CallerStates.{CallerState, state_of, Advances, CallerInvariant}
 use Rattle.pool_history.proofs.Ownership.{at_seam, last_here}
 use Rattle.pool_shared.specs.declared.faults.BorrowFault.{BorrowFault}

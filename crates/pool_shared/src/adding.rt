@@ -12,7 +12,7 @@ ghost use Rattle.pool_shared.specs.Fills.{turned, idle, filling, parked_in, Stoc
 
 use crate::faults::{AddFault, Addition};
 use crate::pool::SharedPool;
-use pool_history::{Caller, Room};
+use pool_history::{Caller, PoolBrand};
 use pool_journal::{Answer, Cause, Input, Outcome};
 use pool_lock::{Clock, Factory};
 use std::sync::Wait;
@@ -24,7 +24,7 @@ pub(crate) enum PrepareError<E> {
     Passivate(E),
 }
 
-impl<T: Drop, E: Drop, F: Factory<T, E> + Drop, C: Clock + Drop, B: Room> SharedPool<
+impl<T: Drop, E: Drop, F: Factory<T, E> + Drop, C: Clock + Drop, B: PoolBrand> SharedPool<
     T,
     E,
     F,

@@ -24,7 +24,7 @@ use crate::lent::Lent;
 use crate::pauses::Pauses;
 use crate::pool::SharedPool;
 use crate::spinning::lock;
-use pool_history::{Caller, Room};
+use pool_history::{Caller, PoolBrand};
 use pool_journal::{Answer, Cause, Input, Outcome, When};
 use pool_lock::{Clock, Factory, LockedPool};
 use std::sync::{MutexGuard, Wait};
@@ -36,7 +36,7 @@ pub(crate) enum ActivateError<E> {
     Test,
 }
 
-impl<T: Drop, E: Drop, F: Factory<T, E> + Drop, C: Clock + Drop, B: Room> SharedPool<
+impl<T: Drop, E: Drop, F: Factory<T, E> + Drop, C: Clock + Drop, B: PoolBrand> SharedPool<
     T,
     E,
     F,

@@ -9,7 +9,7 @@ ghost use Rattle.pool_shared.specs.Evicts.{lost, goes_on, Examines, HasExamined,
 
 use crate::faults::PoolFault;
 use crate::pool::SharedPool;
-use pool_history::{Caller, Room};
+use pool_history::{Caller, PoolBrand};
 use pool_journal::{Answer, Cause, Input, Outcome};
 use pool_lock::{Clock, Factory};
 use std::sync::Wait;
@@ -47,7 +47,7 @@ impl EvictRun {
     }
 }
 
-impl<T: Drop, E: Drop, F: Factory<T, E> + Drop, C: Clock + Drop, B: Room> SharedPool<
+impl<T: Drop, E: Drop, F: Factory<T, E> + Drop, C: Clock + Drop, B: PoolBrand> SharedPool<
     T,
     E,
     F,

@@ -6,12 +6,12 @@ ghost use Rattle.pool_shared.specs.Fills.{FillStep, FillSpec, parked_by};
 
 use crate::faults::{AddFault, Addition};
 use crate::pool::SharedPool;
-use pool_history::{Caller, Room};
+use pool_history::{Caller, PoolBrand};
 use pool_journal::{Answer, Input};
 use pool_lock::{Clock, Factory};
 use std::sync::Wait;
 
-impl<T: Drop, E: Drop, F: Factory<T, E> + Drop, C: Clock + Drop, B: Room> SharedPool<
+impl<T: Drop, E: Drop, F: Factory<T, E> + Drop, C: Clock + Drop, B: PoolBrand> SharedPool<
     T,
     E,
     F,

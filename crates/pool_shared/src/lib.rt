@@ -23,5 +23,5 @@ pub use faults::{
 };
 pub use lent::Lent;
 pub use pool::SharedPool;
-pub use pool_history::{Caller, Room, Site};
+pub use pool_history::{Caller, PoolBrand, UnopenedPool};
 pub use pool_lock::{Clock, Factory};

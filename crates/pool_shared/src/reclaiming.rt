@@ -7,12 +7,12 @@ ghost use Rattle.pool_shared.specs.Reclaims.{MayReclaim, Reclaims, ReclaimSpec, 
 
 use crate::faults::PoolFault;
 use crate::pool::SharedPool;
-use pool_history::{Caller, Room};
+use pool_history::{Caller, PoolBrand};
 use pool_journal::{Answer, Input, When};
 use pool_lock::{Clock, Factory};
 use std::sync::Wait;
 
-impl<T: Drop, E: Drop, F: Factory<T, E> + Drop, C: Clock + Drop, B: Room> SharedPool<
+impl<T: Drop, E: Drop, F: Factory<T, E> + Drop, C: Clock + Drop, B: PoolBrand> SharedPool<
     T,
     E,
     F,

@@ -8,7 +8,7 @@ use crate::files::{Files, open_all};
 use crate::hint::Hint;
 use crate::progress::Progress;
 use crate::runs::settings_in;
-use pool_engines::{CheckFault, EngineFault, check_side_by_side};
+use pool_engines::{CheckFault, EngineFault, check_in_parallel};
 use pool_settings::Settings;
 use std::fs::File;
 use std::io::{IsTerminal, Write};
@@ -87,7 +87,7 @@ pub fn check_files<'a, R: Threads + Sync>(
     let mut verdict = Vec::new(rt.alloc());
     verdict.reserve(LONGEST_VERDICT)?;
     let width = width(threads, &opened);
-    let judged = check_side_by_side(threads, rt.alloc(), &files, width, &mut verdict);
+    let judged = check_in_parallel(threads, rt.alloc(), &files, width, &mut verdict);
     progress.wipe();
     match judged {
         Ok(true) => Ok(Checked {

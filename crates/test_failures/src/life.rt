@@ -9,7 +9,7 @@ use crate::things::{Hands, Thing, Things};
 use pool_journal::{Entry, Segment};
 use pool_settings::Settings;
 use pool_shared::{
-    AddFault, BorrowFault, Caller, Lent, PoolFault, ReturnFault, Returned, Room, SharedPool,
+    AddFault, BorrowFault, Caller, Lent, PoolBrand, PoolFault, ReturnFault, Returned, SharedPool,
 };
 use std::alloc::Global;
 use std::fmt;
@@ -75,7 +75,7 @@ fn reported_of_run<A: Drop>(reported: Result<A, PoolFault>) -> Outcome {
 
 /// A caller with the object that it holds.
 #[derive(Drop)]
-pub struct Life<B: Room> {
+pub struct Life<B: PoolBrand> {
     me: Caller<B>,
     held: Option<Lent<Thing>>,
     /// The number of objects that it borrowed and has not returned, including reclaimed ones.
@@ -84,7 +84,7 @@ pub struct Life<B: Room> {
     segment: Option<Segment>,
 }
 
-impl<B: Room> Life<B> {
+impl<B: PoolBrand> Life<B> {
     pub fn new(me: Caller<B>) -> Life<B> {
         Life {
             me,

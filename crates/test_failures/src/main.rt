@@ -21,7 +21,7 @@ use parts::{Notes, Part};
 use pool_core::Core;
 use pool_journal::{Entry, Segment};
 use pool_settings::Settings;
-use pool_shared::{Caller, OpenFault, Room, Site};
+use pool_shared::{Caller, OpenFault, PoolBrand, UnopenedPool};
 use replay::{count, is_same, replay};
 use std::alloc::Global;
 use std::fmt::Display;
@@ -65,14 +65,14 @@ const NUMBER: u64 = 1;
 #[derive(Clone, Copy)]
 enum Lack {
     Memory,
-    Room,
+    PoolBrand,
 }
 
 impl Display for Lack {
     fn fmt<W: fmt::Write>(&self, f: &mut fmt::Formatter<W>) -> fmt::Result {
         f.write_str(match self {
             Lack::Memory => "memory",
-            Lack::Room => "room",
+            Lack::PoolBrand => "room",
         })
     }
 }
@@ -81,7 +81,7 @@ fn settings_of(lack: Lack) -> Settings {
     Settings {
         journal_limit: match lack {
             Lack::Memory => 1_000,
-            Lack::Room => FULL,
+            Lack::PoolBrand => FULL,
         },
         max_total: 2,
         min_idle: 2,
@@ -94,7 +94,7 @@ fn settings_of(lack: Lack) -> Settings {
 }
 
 // Makes the calls before the one that is tested, and sets the time at which it is made.
-fn prepare<B: Room, R: Wait>(
+fn prepare<B: PoolBrand, R: Wait>(
     rt: &R,
     alloc: Global,
     pool: &Pool<B>,
@@ -189,27 +189,27 @@ fn judge(
 }
 
 // Runs one life of a pool: a call with memory or room for `spare` more entries, and the end.
-fn live<B: Room, R: Wait>(
+fn live<B: PoolBrand, R: Wait>(
     rt: &R,
     alloc: Global,
-    site: Site,
+    unopened: UnopenedPool,
     settings: Settings,
     part: Part,
     spare: u64,
     notes: &mut Notes,
 ) -> Result<Result<End, LifeError>, OpenFault>
-    requires { (site ≡ B.table) × (settings ≡ B.settings) × (1 ≡ B.callers) }
+    requires { (unopened ≡ B.table) × (settings ≡ B.settings) × (1 ≡ B.callers) }
 {
     let moment = AtomicU64::new(0);
     let hands = Hands { moment: &moment };
-    let (pool, callers) = Pool::<B>::open(rt, alloc, site, settings, NUMBER, 1, Things, hands)?;
+    let (pool, callers) = Pool::<B>::open(rt, alloc, unopened, settings, NUMBER, 1, Things, hands)?;
     Ok(live_with(
         rt, alloc, pool, callers, settings, part, spare, &moment, notes,
     ))
 }
 
 // Runs the life of a pool with its one caller.
-fn live_with<B: Room, R: Wait>(
+fn live_with<B: PoolBrand, R: Wait>(
     rt: &R,
     alloc: Global,
     pool: Pool<B>,
@@ -234,7 +234,7 @@ fn live_with<B: Room, R: Wait>(
 }
 
 // Ends the pool, and checks its core.
-fn finish<B: Room, R: Wait>(
+fn finish<B: PoolBrand, R: Wait>(
     rt: &R,
     alloc: Global,
     pool: Pool<B>,
@@ -249,7 +249,7 @@ fn finish<B: Room, R: Wait>(
     }
 }
 
-fn make_calls<B: Room, R: Wait>(
+fn make_calls<B: PoolBrand, R: Wait>(
     rt: &R,
     alloc: Global,
     pool: &Pool<B>,
@@ -277,11 +277,11 @@ fn try_life<R: Wait>(
     notes: &mut Notes,
 ) -> Result<End, LifeError> {
     for _ in 0..TRIES {
-        let Ok(site) = Site::new(alloc) else {
-            notes.note(Part::Site);
+        let Ok(unopened) = UnopenedPool::new(alloc) else {
+            notes.note(Part::UnopenedPool);
             continue;
         };
-        match live::<Brand, R>(rt, alloc, site, settings, part, spare, notes) {
+        match live::<Brand, R>(rt, alloc, unopened, settings, part, spare, notes) {
             Ok(ended) => return ended,
             Err(OpenFault::CallerCount) => return Err(LifeError::WrongAnswer),
             Err(OpenFault::OutOfMemory) => notes.note(Part::Open),
@@ -291,7 +291,7 @@ fn try_life<R: Wait>(
 }
 
 fn main(rt: HostRuntime) -> io::Result<()> {
-    for lack in [Lack::Memory, Lack::Room] {
+    for lack in [Lack::Memory, Lack::PoolBrand] {
         for part in CALLS {
             for spare in 0..=MOST_SPARE {
                 let mut notes = Notes { refused: None };

@@ -6,7 +6,7 @@ use std::fmt::Display;
 /// A call of the libraries that can fail for lack of memory.
 #[derive(Clone, Copy, PartialEq, Eq)]
 pub enum Part {
-    Site,
+    UnopenedPool,
     Open,
     Borrow,
     GiveBack,
@@ -31,7 +31,7 @@ pub enum Part {
 impl Display for Part {
     fn fmt<W: fmt::Write>(&self, f: &mut fmt::Formatter<W>) -> fmt::Result {
         f.write_str(match self {
-            Part::Site => "Site::new",
+            Part::UnopenedPool => "UnopenedPool::new",
             Part::Open => "SharedPool::open",
             Part::Borrow => "borrow",
             Part::GiveBack => "give_back",

@@ -8,7 +8,7 @@ use crate::refusals::{Call, Refusals};
 use crate::things::{Fickle, Thing, Ticking};
 use pool_journal::{Entry, Segment};
 use pool_shared::{
-    AddFault, BorrowFault, Caller, Lent, PoolFault, ReturnFault, Returned, Room, SharedPool,
+    AddFault, BorrowFault, Caller, Lent, PoolBrand, PoolFault, ReturnFault, Returned, SharedPool,
 };
 use rand::RngExt;
 use rand_pcg::Pcg32;
@@ -38,7 +38,7 @@ pub enum Manner {
 
 /// A caller with the objects that it holds, and its work.
 #[derive(Drop)]
-pub struct Player<'a, B: Room> {
+pub struct Player<'a, B: PoolBrand> {
     me: Caller<B>,
     marks: Vec<Mark>,
     forgotten: u64,
@@ -51,7 +51,7 @@ pub struct Player<'a, B: Room> {
     segments: &'a Segments,
 }
 
-impl<'a, B: Room> Player<'a, B> {
+impl<'a, B: PoolBrand> Player<'a, B> {
     /// Makes a player. It allocates all memory of its own at once.
     pub fn new(
         alloc: Global,

@@ -23,7 +23,7 @@ use error::SeedError;
 use judging::{Played, Verdict, judge};
 use pool_core::Core;
 use pool_settings::Settings;
-use pool_shared::{Caller, OpenFault, Room, Site};
+use pool_shared::{Caller, OpenFault, PoolBrand, UnopenedPool};
 use refusals::{CALLS, Call, Refusals};
 use std::alloc::Global;
 use std::marker::Brand;
@@ -91,7 +91,7 @@ fn waiting() -> Settings {
 }
 
 // Makes players with these callers.
-fn players_of<'a, B: Room>(
+fn players_of<'a, B: PoolBrand>(
     alloc: Global,
     callers: Vec<Caller<B>>,
     seed: u64,
@@ -106,7 +106,7 @@ fn players_of<'a, B: Room>(
 }
 
 // Collects the players' callers and their work.
-fn leave_all<B: Room>(
+fn leave_all<B: PoolBrand>(
     players: Vec<Player<'_, B>>,
     back: &mut Vec<Caller<B>>,
     all: &mut Vec<Played>,
@@ -122,7 +122,7 @@ fn leave_all<B: Room>(
 }
 
 // Runs all callers on a pool, collects their work, and ends the pool.
-fn play_on<B: Room + Send + Sync, R: Threads + Wait + Sync>(
+fn play_on<B: PoolBrand + Send + Sync, R: Threads + Wait + Sync>(
     rt: &R,
     pool: Pool<'_, B>,
     mut players: Vec<Player<'_, B>>,
@@ -142,17 +142,17 @@ fn play_on<B: Room + Send + Sync, R: Threads + Wait + Sync>(
 
 // Opens a pool, runs all callers on it, collects their work, and ends it. If an allocation of the opening fails, no
 // caller runs.
-fn play_all<B: Room + Send + Sync, R: Threads + Wait + Sync>(
+fn play_all<B: PoolBrand + Send + Sync, R: Threads + Wait + Sync>(
     rt: &R,
     alloc: Global,
-    site: Site,
+    unopened: UnopenedPool,
     round: &Round,
     tally: &Tally,
     segments: &Segments,
     all: &mut Vec<Played>,
     refusals: &mut Refusals,
 ) -> Result<Core<Thing>, SeedError>
-    requires { (site ≡ B.table) × (round.now.settings ≡ B.settings) × (4 ≡ B.callers) }
+    requires { (unopened ≡ B.table) × (round.now.settings ≡ B.settings) × (4 ≡ B.callers) }
 {
     let back = Vec::with_capacity(alloc, CALLERS as usize)?;
     let things = Fickle {
@@ -163,7 +163,7 @@ fn play_all<B: Room + Send + Sync, R: Threads + Wait + Sync>(
     let opened = Pool::<B>::open(
         rt,
         alloc,
-        site,
+        unopened,
         round.settings,
         round.seed,
         CALLERS,
@@ -179,19 +179,21 @@ fn play_all<B: Room + Send + Sync, R: Threads + Wait + Sync>(
 }
 
 // Runs all callers on one pool, and checks it once it has ended.
-fn play<B: Room + Send + Sync, R: Threads + Wait + Sync>(
+fn play<B: PoolBrand + Send + Sync, R: Threads + Wait + Sync>(
     rt: &R,
     alloc: Global,
-    site: Site,
+    unopened: UnopenedPool,
     round: &Round,
     tally: &Tally,
     refusals: &mut Refusals,
 ) -> Result<Verdict, SeedError>
-    requires { (site ≡ B.table) × (round.now.settings ≡ B.settings) × (4 ≡ B.callers) }
+    requires { (unopened ≡ B.table) × (round.now.settings ≡ B.settings) × (4 ≡ B.callers) }
 {
     let segments: Segments = Mutex::new(Vec::with_capacity(alloc, CUTS)?);
     let mut all = Vec::with_capacity(alloc, CALLERS as usize)?;
-    let core = play_all::<B, R>(rt, alloc, site, round, tally, &segments, &mut all, refusals)?;
+    let core = play_all::<B, R>(
+        rt, alloc, unopened, round, tally, &segments, &mut all, refusals,
+    )?;
     let segments = segments.into_inner();
     judge(
         alloc,
@@ -210,9 +212,9 @@ fn play_anew<R: Threads + Wait + Sync>(
     round: &Round,
     refusals: &mut Refusals,
 ) -> Result<Verdict, SeedError> {
-    let site = Site::new(alloc)?;
+    let unopened = UnopenedPool::new(alloc)?;
     let tally = Tally::new();
-    play::<Brand, R>(rt, alloc, site, round, &tally, refusals)
+    play::<Brand, R>(rt, alloc, unopened, round, &tally, refusals)
 }
 
 // Runs a seed. In one of three the callers wait.

@@ -5,7 +5,8 @@ use crate::openings::Pool;
 use crate::turns::Flag;
 use pool_journal::Segment;
 use pool_shared::{
-    AddFault, Addition, BorrowFault, Caller, Lent, PoolFault, ReturnFault, Returned, Room, Touched,
+    AddFault, Addition, BorrowFault, Caller, Lent, PoolBrand, PoolFault, ReturnFault, Returned,
+    Touched,
 };
 use pool_stats::Counts;
 use std::alloc::Global;
@@ -119,7 +120,7 @@ fn of_returned(returned: Returned) -> Reply {
 }
 
 /// Borrows an object to hold. An object that was held before is dropped.
-pub fn borrows<B: Room, R: Wait>(
+pub fn borrows<B: PoolBrand, R: Wait>(
     rt: &R,
     pool: &Pool<B>,
     me: &mut Caller<B>,
@@ -135,7 +136,7 @@ pub fn borrows<B: Room, R: Wait>(
     }
 }
 
-fn touches<B: Room, R: Wait>(
+fn touches<B: PoolBrand, R: Wait>(
     rt: &R,
     pool: &Pool<B>,
     me: &mut Caller<B>,
@@ -152,7 +153,7 @@ fn touches<B: Room, R: Wait>(
 }
 
 /// Returns the held object. If that fails, it is still held.
-pub fn gives_back<B: Room, R: Wait>(
+pub fn gives_back<B: PoolBrand, R: Wait>(
     rt: &R,
     pool: &Pool<B>,
     me: &mut Caller<B>,
@@ -171,7 +172,7 @@ pub fn gives_back<B: Room, R: Wait>(
 }
 
 /// Invalidates the held object. If that fails, it is still held.
-pub fn invalidates<B: Room, R: Wait>(
+pub fn invalidates<B: PoolBrand, R: Wait>(
     rt: &R,
     pool: &Pool<B>,
     me: &mut Caller<B>,
@@ -189,7 +190,7 @@ pub fn invalidates<B: Room, R: Wait>(
     }
 }
 
-fn adds<B: Room, R: Wait>(rt: &R, pool: &Pool<B>, me: &mut Caller<B>) -> Reply {
+fn adds<B: PoolBrand, R: Wait>(rt: &R, pool: &Pool<B>, me: &mut Caller<B>) -> Reply {
     match pool.add(rt, me) {
         Ok(Addition::Idle) => ("idle", 0),
         Ok(Addition::NoPlace) => ("no place", 0),
@@ -198,7 +199,7 @@ fn adds<B: Room, R: Wait>(rt: &R, pool: &Pool<B>, me: &mut Caller<B>) -> Reply {
     }
 }
 
-fn fills<B: Room, R: Wait>(rt: &R, pool: &Pool<B>, me: &mut Caller<B>) -> Reply {
+fn fills<B: PoolBrand, R: Wait>(rt: &R, pool: &Pool<B>, me: &mut Caller<B>) -> Reply {
     match pool.fill(rt, me) {
         Ok(parked) => ("count", parked),
         Err(fault) => of_add_fault(fault),
@@ -206,7 +207,7 @@ fn fills<B: Room, R: Wait>(rt: &R, pool: &Pool<B>, me: &mut Caller<B>) -> Reply 
 }
 
 // The number of a run is that of the objects that it examined; if it destroyed some, that of the destroyed ones.
-fn evicts<B: Room, R: Wait>(rt: &R, pool: &Pool<B>, me: &mut Caller<B>) -> Reply {
+fn evicts<B: PoolBrand, R: Wait>(rt: &R, pool: &Pool<B>, me: &mut Caller<B>) -> Reply {
     match pool.evict(rt, me) {
         Ok(run) => {
             if run.destroyed == 0 {
@@ -221,27 +222,27 @@ fn evicts<B: Room, R: Wait>(rt: &R, pool: &Pool<B>, me: &mut Caller<B>) -> Reply
     }
 }
 
-fn maintains<B: Room, R: Wait>(rt: &R, pool: &Pool<B>, me: &mut Caller<B>) -> Reply {
+fn maintains<B: PoolBrand, R: Wait>(rt: &R, pool: &Pool<B>, me: &mut Caller<B>) -> Reply {
     match pool.maintain(rt, me) {
         Ok(()) => ("done", 0),
         Err(fault) => of_add_fault(fault),
     }
 }
 
-fn reclaims<B: Room, R: Wait>(rt: &R, pool: &Pool<B>, me: &mut Caller<B>) -> Reply {
+fn reclaims<B: PoolBrand, R: Wait>(rt: &R, pool: &Pool<B>, me: &mut Caller<B>) -> Reply {
     of_count(pool.reclaim(rt, me))
 }
 
-fn clears<B: Room, R: Wait>(rt: &R, pool: &Pool<B>, me: &mut Caller<B>) -> Reply {
+fn clears<B: PoolBrand, R: Wait>(rt: &R, pool: &Pool<B>, me: &mut Caller<B>) -> Reply {
     of_count(pool.clear(rt, me))
 }
 
-fn closes<B: Room, R: Wait>(rt: &R, pool: &Pool<B>, me: &mut Caller<B>) -> Reply {
+fn closes<B: PoolBrand, R: Wait>(rt: &R, pool: &Pool<B>, me: &mut Caller<B>) -> Reply {
     of_count(pool.close(rt, me))
 }
 
 /// Cuts the journal. Returns `None` if an allocation fails.
-pub fn cut<B: Room, R: Wait>(
+pub fn cut<B: PoolBrand, R: Wait>(
     rt: &R,
     alloc: Global,
     pool: &Pool<B>,
@@ -252,7 +253,7 @@ pub fn cut<B: Room, R: Wait>(
 
 /// Cuts the journal if less room than this is left, and stores the segment. The number of the result is that of its
 /// entries.
-pub fn cuts_below<B: Room, R: Wait + Abort>(
+pub fn cuts_below<B: PoolBrand, R: Wait + Abort>(
     rt: &R,
     alloc: Global,
     pool: &Pool<B>,
@@ -269,7 +270,7 @@ pub fn cuts_below<B: Room, R: Wait + Abort>(
 }
 
 /// Returns the number of entries of a copy of the journal.
-pub fn copied<B: Room, R: Wait + Abort>(
+pub fn copied<B: PoolBrand, R: Wait + Abort>(
     rt: &R,
     alloc: Global,
     pool: &Pool<B>,
@@ -279,7 +280,7 @@ pub fn copied<B: Room, R: Wait + Abort>(
 }
 
 /// Returns the counts that the caller observes.
-pub fn counts<B: Room, R: Wait>(rt: &R, pool: &Pool<B>, me: &mut Caller<B>) -> Counts {
+pub fn counts<B: PoolBrand, R: Wait>(rt: &R, pool: &Pool<B>, me: &mut Caller<B>) -> Counts {
     pool.counts(rt, me)
 }
 
@@ -313,7 +314,7 @@ fn of_counts(action: Action, counts: Counts) -> Reply {
 }
 
 /// Does an action, and returns its result.
-pub fn does<B: Room, R: Wait>(
+pub fn does<B: PoolBrand, R: Wait>(
     rt: &R,
     pool: &Pool<B>,
     me: &mut Caller<B>,
@@ -352,7 +353,7 @@ pub fn expect_equal<T: Copy + PartialEq + Debug>(rt: &impl Abort, found: T, want
 }
 
 /// Does the actions of rows in turn, and compares each result.
-pub fn goes_through<B: Room, R: Wait + Abort>(
+pub fn goes_through<B: PoolBrand, R: Wait + Abort>(
     rt: &R,
     pool: &Pool<B>,
     me: &mut Caller<B>,

@@ -4,12 +4,12 @@ ghost use Rattle.std.specs.Prelude.{◌≡◌};
 use crate::actions::{Action, Expectation, Reply, borrows, counts, cut, does, expects, gives_back};
 use crate::clocks::TestClock;
 use crate::items::{Failing, Item, Items, Record, Waiting};
-use crate::openings::{NUMBER, Pool, finished, open, settings_of, site, three};
+use crate::openings::{NUMBER, Pool, finished, open, settings_of, three, unopened};
 use crate::turns::{Flag, Flags, TURNS};
 use pool_core::Core;
 use pool_journal::Segment;
 use pool_settings::Settings;
-use pool_shared::{Caller, Lent, Room, Site};
+use pool_shared::{Caller, Lent, PoolBrand, UnopenedPool};
 use pool_stats::Counts;
 use std::alloc::Global;
 use std::marker::Brand;
@@ -19,7 +19,7 @@ use std::thread;
 use std::thread::Threads;
 
 // Waits until the journal has `steps` entries. Returns whether it had them within the turns.
-fn turns_until_steps<B: Room, R: Wait>(
+fn turns_until_steps<B: PoolBrand, R: Wait>(
     rt: &R,
     pool: &Pool<B>,
     me: &mut Caller<B>,
@@ -35,7 +35,7 @@ fn turns_until_steps<B: Room, R: Wait>(
 }
 
 // Waits until an object is lent. Returns whether one was within the turns.
-fn turns_until_lent<B: Room, R: Wait>(rt: &R, pool: &Pool<B>, me: &mut Caller<B>) -> bool {
+fn turns_until_lent<B: PoolBrand, R: Wait>(rt: &R, pool: &Pool<B>, me: &mut Caller<B>) -> bool {
     for _ in 0..TURNS {
         if counts(rt, pool, me).lent == 1 {
             return true;
@@ -54,7 +54,12 @@ fn of_wait(has_come: bool) -> Reply {
 }
 
 // Borrows and returns. The number is how often an object was lent and returned.
-fn takes_turns<B: Room, R: Wait>(rt: &R, pool: &Pool<B>, me: &mut Caller<B>, rounds: u32) -> Reply {
+fn takes_turns<B: PoolBrand, R: Wait>(
+    rt: &R,
+    pool: &Pool<B>,
+    me: &mut Caller<B>,
+    rounds: u32,
+) -> Reply {
     let mut held = None;
     let mut number = 0u64;
     for _ in 0..rounds {
@@ -68,7 +73,7 @@ fn takes_turns<B: Room, R: Wait>(rt: &R, pool: &Pool<B>, me: &mut Caller<B>, rou
 }
 
 // Borrows, and sets the flag of the result: `Lent` or `TimedOut`.
-fn borrows_or_times_out<B: Room, R: Wait>(
+fn borrows_or_times_out<B: PoolBrand, R: Wait>(
     rt: &R,
     pool: &Pool<B>,
     flags: &Flags,
@@ -95,7 +100,7 @@ fn adds_up(counts: &Counts) -> bool {
 }
 
 // Reads the counts. The number is how often they added up and the steps had not decreased.
-fn watches<B: Room, R: Wait>(rt: &R, pool: &Pool<B>, me: &mut Caller<B>, looks: u32) -> Reply {
+fn watches<B: PoolBrand, R: Wait>(rt: &R, pool: &Pool<B>, me: &mut Caller<B>, looks: u32) -> Reply {
     let mut before = 0;
     let mut number = 0u64;
     for _ in 0..looks {
@@ -109,7 +114,7 @@ fn watches<B: Room, R: Wait>(rt: &R, pool: &Pool<B>, me: &mut Caller<B>, looks: 
 }
 
 // Cuts the journal. The number is that of the stored segments.
-fn cuts<B: Room, R: Wait>(
+fn cuts<B: PoolBrand, R: Wait>(
     rt: &R,
     alloc: Global,
     pool: &Pool<B>,
@@ -130,7 +135,7 @@ fn cuts<B: Room, R: Wait>(
 }
 
 // Does an action that involves other callers, or one of a caller alone.
-fn does_beside<B: Room, R: Wait>(
+fn does_beside<B: PoolBrand, R: Wait>(
     rt: &R,
     pool: &Pool<B>,
     flags: &Flags,
@@ -159,7 +164,7 @@ fn does_beside<B: Room, R: Wait>(
 }
 
 // Does an action of any kind.
-fn does_any<B: Room, R: Wait>(
+fn does_any<B: PoolBrand, R: Wait>(
     rt: &R,
     alloc: Global,
     pool: &Pool<B>,
@@ -176,7 +181,7 @@ fn does_any<B: Room, R: Wait>(
 }
 
 // Does the actions of rows, and compares each result. Returns the caller and the segments that it cut.
-fn takes_part<B: Room, R: Wait + Abort>(
+fn takes_part<B: PoolBrand, R: Wait + Abort>(
     rt: &R,
     alloc: Global,
     pool: &Pool<B>,
@@ -210,7 +215,7 @@ pub type Left = (Core<Item>, Vec<Segment>);
 pub type Parts<'a> = [&'a [Expectation]; 3];
 
 // The callers 0, 1 and 2 again.
-fn together<B: Room>(
+fn together<B: PoolBrand>(
     rt: &impl Abort,
     alloc: Global,
     zero: Caller<B>,
@@ -225,7 +230,7 @@ fn together<B: Room>(
 }
 
 // Runs the rows of callers 1 and 2, each in its own thread. Returns both callers, and the segments that caller 2 cut.
-fn both<B: Room + Send + Sync, R: Threads + Wait + Abort + Sync>(
+fn both<B: PoolBrand + Send + Sync, R: Threads + Wait + Abort + Sync>(
     rt: &R,
     alloc: Global,
     pool: &Pool<B>,
@@ -246,7 +251,7 @@ fn both<B: Room + Send + Sync, R: Threads + Wait + Abort + Sync>(
 }
 
 // Runs the rows of each caller in its own thread.
-fn all_three<B: Room + Send + Sync, R: Threads + Wait + Abort + Sync>(
+fn all_three<B: PoolBrand + Send + Sync, R: Threads + Wait + Abort + Sync>(
     rt: &R,
     alloc: Global,
     pool: &Pool<B>,
@@ -266,19 +271,19 @@ fn all_three<B: Room + Send + Sync, R: Threads + Wait + Abort + Sync>(
     (together(rt, alloc, zero, one, two), segments)
 }
 
-fn lives<B: Room + Send + Sync, R: Threads + Wait + Abort + Sync>(
+fn lives<B: PoolBrand + Send + Sync, R: Threads + Wait + Abort + Sync>(
     rt: &R,
     alloc: Global,
-    site: Site,
+    unopened: UnopenedPool,
     settings: Settings,
     items: Items,
     clock: TestClock,
     flags: &Flags,
     parts: Parts,
 ) -> Left
-    requires { (site ≡ B.table) × (settings ≡ B.settings) × (3 ≡ B.callers) }
+    requires { (unopened ≡ B.table) × (settings ≡ B.settings) × (3 ≡ B.callers) }
 {
-    let (pool, callers) = open::<B, R>(rt, alloc, site, settings, NUMBER, 3, items, clock);
+    let (pool, callers) = open::<B, R>(rt, alloc, unopened, settings, NUMBER, 3, items, clock);
     let callers = three(rt, callers);
     let (callers, segments) = all_three(rt, alloc, &pool, flags, callers, parts);
     (finished(rt, pool, callers), segments)
@@ -321,7 +326,7 @@ pub fn tries<R: Threads + Wait + Abort + Sync>(
     gated: Gated,
     parts: Parts,
 ) -> Left {
-    let site = site(rt, alloc);
+    let unopened = unopened(rt, alloc);
     let settings = settings_of(rt, alloc, settings);
     let record = Record::new(rt, alloc, 8);
     let flags = Flags::new();
@@ -331,7 +336,7 @@ pub fn tries<R: Threads + Wait + Abort + Sync>(
         waiting: waiting(gated, &flags),
     };
     let clock = clock(gated, &flags);
-    let left = lives::<Brand, R>(rt, alloc, site, settings, items, clock, &flags, parts);
+    let left = lives::<Brand, R>(rt, alloc, unopened, settings, items, clock, &flags, parts);
     assert!(rt; !flags.have_run_out(), "the turns ran out at the gate");
     left
 }

@@ -5,11 +5,11 @@ use crate::actions::{Action, Expectation, copied, cut, expect_equal, goes_throug
 use crate::beside::{Gated, Parts, tries};
 use crate::clocks::TestClock;
 use crate::items::{Failing, Item, Items, Record, Waiting};
-use crate::openings::{NUMBER, Pool, finished, open, settings_of, site};
+use crate::openings::{NUMBER, Pool, finished, open, settings_of, unopened};
 use pool_core::Core;
 use pool_journal::{Answer, Base, Entry, Segment};
 use pool_settings::Settings;
-use pool_shared::{Caller, Room, Site};
+use pool_shared::{Caller, PoolBrand, UnopenedPool};
 use pool_stats::Counts;
 use std::alloc::Global;
 use std::marker::Brand;
@@ -45,14 +45,19 @@ fn behind() -> &'static [Expectation] {
 }
 
 // The first cut returns four entries, before which there are none, and leaves none.
-fn cuts_four<B: Room, R: Wait + Abort>(rt: &R, alloc: Global, pool: &Pool<B>, me: &mut Caller<B>) {
+fn cuts_four<B: PoolBrand, R: Wait + Abort>(
+    rt: &R,
+    alloc: Global,
+    pool: &Pool<B>,
+    me: &mut Caller<B>,
+) {
     let segment = cut(rt, alloc, pool, me).expect(rt, "a segment");
     expect_equal(rt, segment.base.first, 0);
     expect_equal(rt, segment.entries.as_slice().len(), 4);
     expect_equal(rt, copied(rt, alloc, pool, me), 0);
 }
 
-fn borrows_behind_a_cut<B: Room, R: Wait + Abort>(
+fn borrows_behind_a_cut<B: PoolBrand, R: Wait + Abort>(
     rt: &R,
     alloc: Global,
     pool: &Pool<B>,
@@ -65,17 +70,17 @@ fn borrows_behind_a_cut<B: Room, R: Wait + Abort>(
     expect_equal(rt, copied(rt, alloc, pool, me), 2);
 }
 
-fn one_caller_cuts<B: Room, R: Wait + Abort>(
+fn one_caller_cuts<B: PoolBrand, R: Wait + Abort>(
     rt: &R,
     alloc: Global,
-    site: Site,
+    unopened: UnopenedPool,
     settings: Settings,
     items: Items,
 )
-    requires { (site ≡ B.table) × (settings ≡ B.settings) × (1 ≡ B.callers) }
+    requires { (unopened ≡ B.table) × (settings ≡ B.settings) × (1 ≡ B.callers) }
 {
     let clock = TestClock::Still;
-    let (pool, mut callers) = open::<B, R>(rt, alloc, site, settings, NUMBER, 1, items, clock);
+    let (pool, mut callers) = open::<B, R>(rt, alloc, unopened, settings, NUMBER, 1, items, clock);
     let me = callers.last_mut().expect(rt, "a caller");
     borrows_behind_a_cut(rt, alloc, &pool, me);
     is_left(rt, &finished(rt, pool, callers));
@@ -99,7 +104,7 @@ fn is_left(rt: &impl Abort, core: &Core<Item>) {
 
 #[test]
 fn a_cut_makes_room(rt: HostRuntime) {
-    let site = site(&rt, rt.alloc());
+    let unopened = unopened(&rt, rt.alloc());
     let settings = settings_of(&rt, rt.alloc(), "journalLimit = 7");
     let record = Record::new(&rt, rt.alloc(), 8);
     let items = Items {
@@ -107,7 +112,7 @@ fn a_cut_makes_room(rt: HostRuntime) {
         failing: Failing::Never,
         waiting: Waiting::Nowhere,
     };
-    one_caller_cuts::<Brand, _>(&rt, rt.alloc(), site, settings, items);
+    one_caller_cuts::<Brand, _>(&rt, rt.alloc(), unopened, settings, items);
 }
 
 // Returns the answer of a core to the input of an entry.

@@ -3,9 +3,9 @@ ghost use Rattle.std.specs.Prelude.{◌≡◌};
 
 use crate::actions::expect_equal;
 use crate::clocks::TestClock;
-use crate::openings::{NUMBER, site};
+use crate::openings::{NUMBER, unopened};
 use pool_settings::Settings;
-use pool_shared::{Caller, Factory, Lent, Room, SharedPool, Site};
+use pool_shared::{Caller, Factory, Lent, PoolBrand, SharedPool, UnopenedPool};
 use std::alloc::{AllocError, Global};
 use std::marker::Brand;
 use std::process::Abort;
@@ -128,7 +128,7 @@ fn drop_in_order<P: Drop, C: Drop, L: Drop>(order: Order, pool: P, callers: C, l
 }
 
 // Borrows an object.
-fn borrows<'a, B: Room, R: Wait + Abort>(
+fn borrows<'a, B: PoolBrand, R: Wait + Abort>(
     rt: &R,
     pool: &Counts<'a, B>,
     me: &mut Caller<B>,
@@ -137,7 +137,7 @@ fn borrows<'a, B: Room, R: Wait + Abort>(
 }
 
 // Returns an object to the pool.
-fn gives_back<'a, B: Room, R: Wait + Abort>(
+fn gives_back<'a, B: PoolBrand, R: Wait + Abort>(
     rt: &R,
     pool: &Counts<'a, B>,
     me: &mut Caller<B>,
@@ -148,7 +148,7 @@ fn gives_back<'a, B: Room, R: Wait + Abort>(
 }
 
 // The last caller borrows two objects and returns one to the pool. The result is the other one.
-fn lends_one<'a, B: Room, R: Wait + Abort>(
+fn lends_one<'a, B: PoolBrand, R: Wait + Abort>(
     rt: &R,
     pool: &Counts<'a, B>,
     callers: &mut Vec<Caller<B>>,
@@ -161,20 +161,20 @@ fn lends_one<'a, B: Room, R: Wait + Abort>(
 }
 
 // A pool with an idle object and a lent one is dropped with them.
-fn drops<B: Room, R: Wait + Abort>(
+fn drops<B: PoolBrand, R: Wait + Abort>(
     rt: &R,
     alloc: Global,
-    site: Site,
+    unopened: UnopenedPool,
     settings: Settings,
     present: &AtomicU64,
     order: Order,
 )
-    requires { (site ≡ B.table) × (settings ≡ B.settings) × (2 ≡ B.callers) }
+    requires { (unopened ≡ B.table) × (settings ≡ B.settings) × (2 ≡ B.callers) }
 {
     let objects = Counting { alloc, present };
     let clock = TestClock::Still;
     let (pool, mut callers) = Counts::<B>::open(
-        rt, alloc, site, settings, NUMBER, 2, objects, clock,
+        rt, alloc, unopened, settings, NUMBER, 2, objects, clock,
     ).expect(rt, "a pool");
     let lent = lends_one(rt, &pool, &mut callers);
     drop_in_order(order, pool, callers, lent);
@@ -184,26 +184,33 @@ fn drops<B: Room, R: Wait + Abort>(
 fn nothing_stays_in_any_order(rt: HostRuntime) {
     let present = AtomicU64::new(0);
     for order in ORDERS {
-        let site = site(&rt, rt.alloc());
-        drops::<Brand, _>(&rt, rt.alloc(), site, Settings::default(), &present, order);
+        let unopened = unopened(&rt, rt.alloc());
+        drops::<Brand, _>(
+            &rt,
+            rt.alloc(),
+            unopened,
+            Settings::default(),
+            &present,
+            order,
+        );
         assert_eq!(rt; present.load(Ordering::SeqCst), 0, "at {order:?}");
     }
 }
 
 // A pool is finished while an object is lent, and the core is dropped with the idle one.
-fn finishes<B: Room, R: Wait + Abort>(
+fn finishes<B: PoolBrand, R: Wait + Abort>(
     rt: &R,
     alloc: Global,
-    site: Site,
+    unopened: UnopenedPool,
     settings: Settings,
     present: &AtomicU64,
 )
-    requires { (site ≡ B.table) × (settings ≡ B.settings) × (1 ≡ B.callers) }
+    requires { (unopened ≡ B.table) × (settings ≡ B.settings) × (1 ≡ B.callers) }
 {
     let objects = Counting { alloc, present };
     let clock = TestClock::Still;
     let (pool, mut callers) = Counts::<B>::open(
-        rt, alloc, site, settings, NUMBER, 1, objects, clock,
+        rt, alloc, unopened, settings, NUMBER, 1, objects, clock,
     ).expect(rt, "a pool");
     let lent = lends_one(rt, &pool, &mut callers);
     let core = pool.finish(rt, callers).ok().expect(rt, "a core");
@@ -214,7 +221,7 @@ fn finishes<B: Room, R: Wait + Abort>(
 #[test]
 fn nothing_stays_of_a_finished_pool(rt: HostRuntime) {
     let present = AtomicU64::new(0);
-    let site = site(&rt, rt.alloc());
-    finishes::<Brand, _>(&rt, rt.alloc(), site, Settings::default(), &present);
+    let unopened = unopened(&rt, rt.alloc());
+    finishes::<Brand, _>(&rt, rt.alloc(), unopened, Settings::default(), &present);
     expect_equal(&rt, present.load(Ordering::SeqCst), 0);
 }

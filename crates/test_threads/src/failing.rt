@@ -6,9 +6,9 @@ use crate::actions::{
 };
 use crate::clocks::TestClock;
 use crate::items::{Failing, Items, Record, Waiting};
-use crate::openings::{NUMBER, Pool, open, settings_of, single, site};
+use crate::openings::{NUMBER, Pool, open, settings_of, single, unopened};
 use pool_settings::Settings;
-use pool_shared::{Caller, Room, Site};
+use pool_shared::{Caller, PoolBrand, UnopenedPool};
 use std::alloc::Global;
 use std::marker::Brand;
 use std::process::Abort;
@@ -28,7 +28,11 @@ const NONE_LENT: [Expectation; 2] = [(Action::Reserved, "reserved", 0), (Action:
 const NONE_RESERVED: [Expectation; 1] = [(Action::Reserved, "reserved", 0)];
 
 // Borrows, and returns the lent object.
-fn borrows_and_gives_back<B: Room, R: Wait + Abort>(rt: &R, pool: &Pool<B>, me: &mut Caller<B>) {
+fn borrows_and_gives_back<B: PoolBrand, R: Wait + Abort>(
+    rt: &R,
+    pool: &Pool<B>,
+    me: &mut Caller<B>,
+) {
     let mut held = None;
     borrows(rt, pool, me, &mut held);
     if held.is_some() {
@@ -45,7 +49,7 @@ fn is_run(word: &str) -> bool {
 }
 
 // Adds an object, examines the idle ones, and closes the pool.
-fn adds_and_ends<B: Room, R: Wait + Abort>(rt: &R, pool: &Pool<B>, me: &mut Caller<B>) {
+fn adds_and_ends<B: PoolBrand, R: Wait + Abort>(rt: &R, pool: &Pool<B>, me: &mut Caller<B>) {
     let mut held = None;
     does(rt, pool, me, &mut held, Action::Add);
     goes_through(rt, pool, me, &mut held, &NONE_RESERVED);
@@ -59,17 +63,17 @@ fn adds_and_ends<B: Room, R: Wait + Abort>(rt: &R, pool: &Pool<B>, me: &mut Call
     expect_equal(rt, counts.destroyed, counts.created);
 }
 
-fn lives<B: Room, R: Wait + Abort>(
+fn lives<B: PoolBrand, R: Wait + Abort>(
     rt: &R,
     alloc: Global,
-    site: Site,
+    unopened: UnopenedPool,
     settings: Settings,
     items: Items,
 )
-    requires { (site ≡ B.table) × (settings ≡ B.settings) × (1 ≡ B.callers) }
+    requires { (unopened ≡ B.table) × (settings ≡ B.settings) × (1 ≡ B.callers) }
 {
     let clock = TestClock::Still;
-    let (pool, callers) = open::<B, R>(rt, alloc, site, settings, NUMBER, 1, items, clock);
+    let (pool, callers) = open::<B, R>(rt, alloc, unopened, settings, NUMBER, 1, items, clock);
     let mut me = single(rt, callers);
     borrows_and_gives_back(rt, &pool, &mut me);
     borrows_and_gives_back(rt, &pool, &mut me);
@@ -86,14 +90,14 @@ fn has_failed(rt: &impl Abort, record: &Record, number: u64) {
 fn each_call_of_the_factory_fails_once(rt: HostRuntime) {
     let settings = settings_of(&rt, rt.alloc(), ALL_TESTS);
     for number in 1..=CALLS + 1 {
-        let site = site(&rt, rt.alloc());
+        let unopened = unopened(&rt, rt.alloc());
         let record = Record::new(&rt, rt.alloc(), 8);
         let items = Items {
             record: &record,
             failing: Failing::Nth(number),
             waiting: Waiting::Nowhere,
         };
-        lives::<Brand, _>(&rt, rt.alloc(), site, settings, items);
+        lives::<Brand, _>(&rt, rt.alloc(), unopened, settings, items);
         has_failed(&rt, &record, number);
     }
 }

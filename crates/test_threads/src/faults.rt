@@ -6,24 +6,24 @@ use crate::clocks::TestClock;
 use crate::items::{
     Call, Failing, Items, NOT_ACTIVATED, NOT_MADE, NOT_PASSIVATED, Record, Waiting,
 };
-use crate::openings::{NUMBER, Pool, site};
+use crate::openings::{NUMBER, Pool, unopened};
 use crate::solo::tries;
 use pool_settings::Settings;
-use pool_shared::{OpenFault, Room, Site};
+use pool_shared::{OpenFault, PoolBrand, UnopenedPool};
 use std::alloc::Global;
 use std::marker::Brand;
 use std::sync::Wait;
 
 // Opens a pool for this number of callers.
-fn opens<B: Room, R: Wait>(
+fn opens<B: PoolBrand, R: Wait>(
     rt: &R,
     alloc: Global,
-    site: Site,
+    unopened: UnopenedPool,
     settings: Settings,
     callers: u32,
     record: &Record,
 ) -> Result<(), OpenFault>
-    requires { (site ≡ B.table) × (settings ≡ B.settings) × (callers ≡ B.callers) }
+    requires { (unopened ≡ B.table) × (settings ≡ B.settings) × (callers ≡ B.callers) }
 {
     let items = Items {
         record,
@@ -31,7 +31,7 @@ fn opens<B: Room, R: Wait>(
         waiting: Waiting::Nowhere,
     };
     let clock = TestClock::Still;
-    Pool::<B>::open(rt, alloc, site, settings, NUMBER, callers, items, clock)?;
+    Pool::<B>::open(rt, alloc, unopened, settings, NUMBER, callers, items, clock)?;
     Ok(())
 }
 
@@ -39,11 +39,11 @@ fn opens<B: Room, R: Wait>(
 fn pools_have_1_to_1024_callers(rt: HostRuntime) {
     let record = Record::new(&rt, rt.alloc(), 8);
     for (callers, is_refused) in [(0, true), (1025, true), (1, false), (1024, false)] {
-        let site = site(&rt, rt.alloc());
+        let unopened = unopened(&rt, rt.alloc());
         let opened = opens::<Brand, _>(
             &rt,
             rt.alloc(),
-            site,
+            unopened,
             Settings::default(),
             callers,
             &record,

@@ -4,10 +4,10 @@ ghost use Rattle.std.specs.Prelude.{◌≡◌};
 use crate::actions::{Action, Expectation, copied, expect_equal, goes_through};
 use crate::clocks::TestClock;
 use crate::items::{Failing, Item, Items, Record, Waiting};
-use crate::openings::{NUMBER, Pool, finished, open, pair, settings_of, site};
+use crate::openings::{NUMBER, Pool, finished, open, pair, settings_of, unopened};
 use pool_core::Core;
 use pool_settings::Settings;
-use pool_shared::{Caller, FinishFault, Room, Site};
+use pool_shared::{Caller, FinishFault, PoolBrand, UnopenedPool};
 use pool_stats::Counts;
 use std::alloc::Global;
 use std::marker::Brand;
@@ -77,7 +77,7 @@ fn behind_the_end() -> &'static [Expectation] {
 }
 
 // Runs the rows of each caller in turn.
-fn takes_parts<B: Room, R: Wait + Abort>(
+fn takes_parts<B: PoolBrand, R: Wait + Abort>(
     rt: &R,
     alloc: Global,
     pool: &Pool<B>,
@@ -94,7 +94,7 @@ fn takes_parts<B: Room, R: Wait + Abort>(
 }
 
 // The pool is not finished without the second caller.
-fn lacks_a_caller<'a, B: Room, R: Wait + Abort>(
+fn lacks_a_caller<'a, B: PoolBrand, R: Wait + Abort>(
     rt: &R,
     pool: Pool<'a, B>,
     callers: Vec<Caller<B>>,
@@ -122,7 +122,7 @@ fn comes_to(rt: &impl Abort, core: &Core<Item>) {
 }
 
 // The pool is finished once both callers are back.
-fn finishes<B: Room, R: Wait + Abort>(
+fn finishes<B: PoolBrand, R: Wait + Abort>(
     rt: &R,
     alloc: Global,
     pool: Pool<B>,
@@ -136,17 +136,17 @@ fn finishes<B: Room, R: Wait + Abort>(
     comes_to(rt, &finished(rt, pool, callers));
 }
 
-fn lives<B: Room, R: Wait + Abort>(
+fn lives<B: PoolBrand, R: Wait + Abort>(
     rt: &R,
     alloc: Global,
-    site: Site,
+    unopened: UnopenedPool,
     settings: Settings,
     items: Items,
 )
-    requires { (site ≡ B.table) × (settings ≡ B.settings) × (2 ≡ B.callers) }
+    requires { (unopened ≡ B.table) × (settings ≡ B.settings) × (2 ≡ B.callers) }
 {
     let clock = TestClock::Still;
-    let (pool, callers) = open::<B, R>(rt, alloc, site, settings, NUMBER, 2, items, clock);
+    let (pool, callers) = open::<B, R>(rt, alloc, unopened, settings, NUMBER, 2, items, clock);
     let (mut zero, mut one) = pair(rt, callers);
     takes_parts(rt, alloc, &pool, &mut zero, &mut one);
     finishes(rt, alloc, pool, zero, one);
@@ -154,7 +154,7 @@ fn lives<B: Room, R: Wait + Abort>(
 
 #[test]
 fn two_callers_live_through_all_calls(rt: HostRuntime) {
-    let site = site(&rt, rt.alloc());
+    let unopened = unopened(&rt, rt.alloc());
     let settings = settings_of(&rt, rt.alloc(), "minIdle = 1");
     let record = Record::new(&rt, rt.alloc(), 8);
     let items = Items {
@@ -162,6 +162,6 @@ fn two_callers_live_through_all_calls(rt: HostRuntime) {
         failing: Failing::Never,
         waiting: Waiting::Nowhere,
     };
-    lives::<Brand, _>(&rt, rt.alloc(), site, settings, items);
+    lives::<Brand, _>(&rt, rt.alloc(), unopened, settings, items);
     assert!(rt; record.is_even());
 }

@@ -7,11 +7,11 @@ use crate::actions::{Action, Expectation, Reply, cuts_below, does, expect_equal,
 use crate::clocks::TestClock;
 use crate::cutting::plays_again;
 use crate::items::{Failing, Item, Items, Record, Waiting};
-use crate::openings::{NUMBER, Pool, finished, open, settings_of, site};
+use crate::openings::{NUMBER, Pool, finished, open, settings_of, unopened};
 use pool_core::Core;
 use pool_journal::Segment;
 use pool_settings::Settings;
-use pool_shared::{Caller, Lent, Room, Site};
+use pool_shared::{Caller, Lent, PoolBrand, UnopenedPool};
 use std::alloc::Global;
 use std::marker::Brand;
 use std::process::Abort;
@@ -74,7 +74,7 @@ fn stock() -> &'static [Expectation] {
 }
 
 // Does the action of a row, or a cut.
-fn comes_to<B: Room, R: Wait + Abort>(
+fn comes_to<B: PoolBrand, R: Wait + Abort>(
     rt: &R,
     alloc: Global,
     pool: &Pool<B>,
@@ -90,7 +90,7 @@ fn comes_to<B: Room, R: Wait + Abort>(
 }
 
 // Does the actions of rows, and returns the segments that were cut.
-fn goes_through_cuts<B: Room, R: Wait + Abort>(
+fn goes_through_cuts<B: PoolBrand, R: Wait + Abort>(
     rt: &R,
     alloc: Global,
     pool: &Pool<B>,
@@ -107,18 +107,18 @@ fn goes_through_cuts<B: Room, R: Wait + Abort>(
 }
 
 // Returns the core at the end, and the segments that one caller cut.
-fn lives<B: Room, R: Wait + Abort>(
+fn lives<B: PoolBrand, R: Wait + Abort>(
     rt: &R,
     alloc: Global,
-    site: Site,
+    unopened: UnopenedPool,
     settings: Settings,
     items: Items,
     rows: &[Expectation],
 ) -> (Core<Item>, Vec<Segment>)
-    requires { (site ≡ B.table) × (settings ≡ B.settings) × (1 ≡ B.callers) }
+    requires { (unopened ≡ B.table) × (settings ≡ B.settings) × (1 ≡ B.callers) }
 {
     let clock = TestClock::Still;
-    let (pool, mut callers) = open::<B, R>(rt, alloc, site, settings, NUMBER, 1, items, clock);
+    let (pool, mut callers) = open::<B, R>(rt, alloc, unopened, settings, NUMBER, 1, items, clock);
     let me = callers.last_mut().expect(rt, "a caller");
     let segments = goes_through_cuts(rt, alloc, &pool, me, rows);
     (finished(rt, pool, callers), segments)
@@ -127,7 +127,7 @@ fn lives<B: Room, R: Wait + Abort>(
 // Does the actions of rows with the settings of a text. The segments and the stored entries are one history: a new core
 // that takes its steps has the same counts.
 fn tries<R: Wait + Abort>(rt: &R, alloc: Global, settings: &str, rows: &[Expectation]) {
-    let site = site(rt, alloc);
+    let unopened = unopened(rt, alloc);
     let settings = settings_of(rt, alloc, settings);
     let record = Record::new(rt, alloc, 8);
     let items = Items {
@@ -135,7 +135,7 @@ fn tries<R: Wait + Abort>(rt: &R, alloc: Global, settings: &str, rows: &[Expecta
         failing: Failing::Never,
         waiting: Waiting::Nowhere,
     };
-    let (core, segments) = lives::<Brand, R>(rt, alloc, site, settings, items, rows);
+    let (core, segments) = lives::<Brand, R>(rt, alloc, unopened, settings, items, rows);
     let counts = plays_again(rt, alloc, settings, &segments, core.journal());
     expect_equal(rt, core.counts(), counts);
 }

@@ -5,7 +5,7 @@ use crate::clocks::TestClock;
 use crate::items::{Item, Items};
 use pool_core::Core;
 use pool_settings::Settings;
-use pool_shared::{Caller, Room, SharedPool, Site};
+use pool_shared::{Caller, PoolBrand, SharedPool, UnopenedPool};
 use std::alloc::Global;
 use std::process::Abort;
 use std::sync::Wait;
@@ -16,8 +16,8 @@ pub const NUMBER: u64 = 5;
 pub type Pool<'a, B> = SharedPool<Item, u8, Items<'a>, TestClock<'a>, B>;
 
 /// Returns the cell of a new pool.
-pub fn site(rt: &impl Abort, alloc: Global) -> Site {
-    Site::new(alloc).expect(rt, "a site")
+pub fn unopened(rt: &impl Abort, alloc: Global) -> UnopenedPool {
+    UnopenedPool::new(alloc).expect(rt, "a pool to open")
 }
 
 /// Returns the settings of a text.
@@ -26,23 +26,25 @@ pub fn settings_of(rt: &impl Abort, alloc: Global, text: &str) -> Settings {
 }
 
 /// Opens a new pool with this number, and returns it with its callers.
-pub fn open<'a, B: Room, R: Wait + Abort>(
+pub fn open<'a, B: PoolBrand, R: Wait + Abort>(
     rt: &R,
     alloc: Global,
-    site: Site,
+    unopened: UnopenedPool,
     settings: Settings,
     number: u64,
     callers: u32,
     items: Items<'a>,
     clock: TestClock<'a>,
 ) -> (Pool<'a, B>, Vec<Caller<B>>)
-    requires { (site ≡ B.table) × (settings ≡ B.settings) × (callers ≡ B.callers) }
+    requires { (unopened ≡ B.table) × (settings ≡ B.settings) × (callers ≡ B.callers) }
 {
-    Pool::<B>::open(rt, alloc, site, settings, number, callers, items, clock).expect(rt, "a pool")
+    Pool::<B>::open(rt, alloc, unopened, settings, number, callers, items, clock).expect(
+        rt, "a pool",
+    )
 }
 
 /// Ends a pool whose callers are all back, and returns its core.
-pub fn finished<B: Room, R: Wait + Abort>(
+pub fn finished<B: PoolBrand, R: Wait + Abort>(
     rt: &R,
     pool: Pool<B>,
     callers: Vec<Caller<B>>,
@@ -51,13 +53,13 @@ pub fn finished<B: Room, R: Wait + Abort>(
 }
 
 /// Returns the only caller.
-pub fn single<B: Room>(rt: &impl Abort, callers: Vec<Caller<B>>) -> Caller<B> {
+pub fn single<B: PoolBrand>(rt: &impl Abort, callers: Vec<Caller<B>>) -> Caller<B> {
     let mut callers = callers;
     callers.pop().expect(rt, "a caller")
 }
 
 /// Returns the callers 0 and 1, of two.
-pub fn pair<B: Room>(rt: &impl Abort, callers: Vec<Caller<B>>) -> (Caller<B>, Caller<B>) {
+pub fn pair<B: PoolBrand>(rt: &impl Abort, callers: Vec<Caller<B>>) -> (Caller<B>, Caller<B>) {
     let mut callers = callers;
     let one = callers.pop().expect(rt, "two callers");
     let zero = callers.pop().expect(rt, "two callers");
@@ -65,7 +67,7 @@ pub fn pair<B: Room>(rt: &impl Abort, callers: Vec<Caller<B>>) -> (Caller<B>, Ca
 }
 
 /// Returns the callers 0, 1 and 2, of three.
-pub fn three<B: Room>(
+pub fn three<B: PoolBrand>(
     rt: &impl Abort,
     callers: Vec<Caller<B>>,
 ) -> (Caller<B>, Caller<B>, Caller<B>) {

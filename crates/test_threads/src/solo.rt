@@ -4,26 +4,26 @@ ghost use Rattle.std.specs.Prelude.{◌≡◌};
 use crate::actions::{Expectation, goes_through};
 use crate::clocks::TestClock;
 use crate::items::{Failing, Items, Record, Waiting};
-use crate::openings::{NUMBER, open, settings_of, single, site};
+use crate::openings::{NUMBER, open, settings_of, single, unopened};
 use pool_settings::Settings;
-use pool_shared::{Room, Site};
+use pool_shared::{PoolBrand, UnopenedPool};
 use std::alloc::Global;
 use std::marker::Brand;
 use std::process::Abort;
 use std::sync::Wait;
 
-fn lives<B: Room, R: Wait + Abort>(
+fn lives<B: PoolBrand, R: Wait + Abort>(
     rt: &R,
     alloc: Global,
-    site: Site,
+    unopened: UnopenedPool,
     settings: Settings,
     items: Items,
     rows: &[Expectation],
 )
-    requires { (site ≡ B.table) × (settings ≡ B.settings) × (1 ≡ B.callers) }
+    requires { (unopened ≡ B.table) × (settings ≡ B.settings) × (1 ≡ B.callers) }
 {
     let clock = TestClock::Still;
-    let (pool, callers) = open::<B, R>(rt, alloc, site, settings, NUMBER, 1, items, clock);
+    let (pool, callers) = open::<B, R>(rt, alloc, unopened, settings, NUMBER, 1, items, clock);
     let mut me = single(rt, callers);
     let mut held = None;
     goes_through(rt, &pool, &mut me, &mut held, rows);
@@ -38,7 +38,7 @@ pub fn tries<R: Wait + Abort>(
     failing: Failing,
     rows: &[Expectation],
 ) -> bool {
-    let site = site(rt, alloc);
+    let unopened = unopened(rt, alloc);
     let settings = settings_of(rt, alloc, settings);
     let record = Record::new(rt, alloc, 8);
     let items = Items {
@@ -46,6 +46,6 @@ pub fn tries<R: Wait + Abort>(
         failing,
         waiting: Waiting::Nowhere,
     };
-    lives::<Brand, R>(rt, alloc, site, settings, items, rows);
+    lives::<Brand, R>(rt, alloc, unopened, settings, items, rows);
     record.is_even()
 }

@@ -4,24 +4,24 @@ ghost use Rattle.std.specs.Prelude.{◌≡◌};
 use crate::actions::{Action, goes_through};
 use crate::clocks::TestClock;
 use crate::items::{Failing, Items, Record, Waiting};
-use crate::openings::{Pool, open, single, site};
+use crate::openings::{Pool, open, single, unopened};
 use pool_settings::Settings;
-use pool_shared::{Caller, Room, Site};
+use pool_shared::{Caller, PoolBrand, UnopenedPool};
 use std::alloc::Global;
 use std::marker::Brand;
 use std::process::Abort;
 use std::sync::Wait;
 
 // Opens a pool with this number, for one caller.
-fn opens<'a, B: Room, R: Wait + Abort>(
+fn opens<'a, B: PoolBrand, R: Wait + Abort>(
     rt: &R,
     alloc: Global,
-    site: Site,
+    unopened: UnopenedPool,
     settings: Settings,
     number: u64,
     record: &'a Record,
 ) -> (Pool<'a, B>, Caller<B>)
-    requires { (site ≡ B.table) × (settings ≡ B.settings) × (1 ≡ B.callers) }
+    requires { (unopened ≡ B.table) × (settings ≡ B.settings) × (1 ≡ B.callers) }
 {
     let items = Items {
         record,
@@ -29,13 +29,13 @@ fn opens<'a, B: Room, R: Wait + Abort>(
         waiting: Waiting::Nowhere,
     };
     let clock = TestClock::Still;
-    let (pool, callers) = open::<B, R>(rt, alloc, site, settings, number, 1, items, clock);
+    let (pool, callers) = open::<B, R>(rt, alloc, unopened, settings, number, 1, items, clock);
     (pool, single(rt, callers))
 }
 
 // An object of a pool with the number 5 is passed to another pool, with this number, which rejects it as not lent, or
 // as foreign.
-fn is_offered<A: Room, B: Room, R: Wait + Abort>(
+fn is_offered<A: PoolBrand, B: PoolBrand, R: Wait + Abort>(
     rt: &R,
     own: &Pool<A>,
     me: &mut Caller<A>,
@@ -58,11 +58,11 @@ fn is_offered<A: Room, B: Room, R: Wait + Abort>(
 }
 
 // Opens both pools.
-fn offers<A: Room, B: Room, R: Wait + Abort>(
+fn offers<A: PoolBrand, B: PoolBrand, R: Wait + Abort>(
     rt: &R,
     alloc: Global,
-    first: Site,
-    second: Site,
+    first: UnopenedPool,
+    second: UnopenedPool,
     settings: Settings,
     number: u64,
     record: &Record,
@@ -81,8 +81,8 @@ fn objects_go_back_to_their_own_pool(rt: HostRuntime) {
     let record = Record::new(&rt, a, 8);
     let settings = Settings::default();
     for number in [5, 6] {
-        let first = site(&rt, a);
-        let second = site(&rt, a);
+        let first = unopened(&rt, a);
+        let second = unopened(&rt, a);
         offers::<Brand, Brand, _>(&rt, a, first, second, settings, number, &record);
     }
 }

@@ -1,4 +1,4 @@
 use Rattle.example_server.proofs.main.Given as goal
 
 abbrev pub ghosts-day : goal.ghosts-day
-ghosts-day g a = record { table = a.site; settings = a.settings; callers = 5 }
+ghosts-day g a = record { table = a.unopened; settings = a.settings; callers = 5 }

@@ -1,4 +1,4 @@
 use Rattle.test_failures.proofs.try_life.Given as goal
 
 abbrev pub ghosts-live : goal.ghosts-live
-ghosts-live g a = record { table = a.site; settings = a.settings; callers = 1 }
+ghosts-live g a = record { table = a.unopened; settings = a.settings; callers = 1 }

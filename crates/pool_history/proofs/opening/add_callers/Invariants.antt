@@ -5,4 +5,4 @@ use Rattle.pool_history.specs.CallerStates.{newcomer_at}
 use Rattle.pool_history.proofs.opening.add_callers.Given as goal
 
 abbrev pub invariant-loop-number : goal.invariant-loop-number
-invariant-loop-number g l = (l.pass.table_id ≡ l.initial.pass.table_id) × (cell_view l.pass ≡ authority g.B.Room.settings [] l.number [] []) × (length l.list.items ≡ l.number) × ((k : ℕ) → k < l.number → slice_get l.list.items k ≡ Some (newcomer_at k))
+invariant-loop-number g l = (l.pass.table_id ≡ l.initial.pass.table_id) × (cell_view l.pass ≡ authority g.B.PoolBrand.settings [] l.number [] []) × (length l.list.items ≡ l.number) × ((k : ℕ) → k < l.number → slice_get l.list.items k ≡ Some (newcomer_at k))

@@ -5,4 +5,4 @@ use Rattle.pool_history.specs.CallerStates.{fragment_of}
 use Rattle.pool_history.proofs.opening.join_callers.Given as goal
 
 abbrev pub invariant-loop-caller : goal.invariant-loop-caller
-invariant-loop-caller g l = (l.pass.table_id ≡ l.initial.pass.table_id) × (cell_view l.pass ≡ with_fragments (cell_view l.initial.pass) (map (fragment_of g.B.Room.settings) l.yielded))
+invariant-loop-caller g l = (l.pass.table_id ≡ l.initial.pass.table_id) × (cell_view l.pass ≡ with_fragments (cell_view l.initial.pass) (map (fragment_of g.B.PoolBrand.settings) l.yielded))

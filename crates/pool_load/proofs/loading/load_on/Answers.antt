@@ -11,7 +11,7 @@ use Rattle.pool_load.proofs.loading.load_on.Goals as goal
 
 pub returns-in-Ok-outcome-clause-load : goal.returns-in-Ok-outcome-clause-load
 returns-in-Ok-outcome-clause-load g c =
-    let s = g.B.Room.settings in
+    let s = g.B.PoolBrand.settings in
     let workers = c.args.workers in
     let rounds = c.args.rounds in
     let front = c.pop.new.self.items in
@@ -36,7 +36,7 @@ returns-in-Ok-outcome-clause-load g c =
 
 pub returns-in-Err-clause-stops : goal.returns-in-Err-clause-stops
 returns-in-Err-clause-stops g c =
-    let s = g.B.Room.settings in
+    let s = g.B.PoolBrand.settings in
     let back = c.in_ok-outcome.ensures.closed in
     let whole = c.in-Ok-finish.ensures.whole in
     let each = subst (λ l. EachAppended l whole.history) back.all whole.each in

@@ -4,7 +4,7 @@ use Rattle.pool_load.proofs.loading.work_and_close.Goals as goal
 
 pub collect_all-requires-clause-each : goal.collect_all-requires-clause-each
 collect_all-requires-clause-each g c =
-    outcomes_within (λ w. w.caller) (λ w. w.outcome) g.B.Room.settings c.args.rounds 1000000 c.args.callers.items c.in_ok-worked.worked.items c.in_ok-worked.ensures.ok c.requires.rounds
+    outcomes_within (λ w. w.caller) (λ w. w.outcome) g.B.PoolBrand.settings c.args.rounds 1000000 c.args.callers.items c.in_ok-worked.worked.items c.in_ok-worked.ensures.ok c.requires.rounds
 
 pub returns-in-Ok-clause-closed : goal.returns-in-Ok-clause-closed
 returns-in-Ok-clause-closed g c =

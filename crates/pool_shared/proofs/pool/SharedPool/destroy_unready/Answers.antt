@@ -6,7 +6,7 @@ pub returns-clause-ends : goal.returns-clause-ends
 returns-clause-ends g c = c.destroy_held.ensures.ends
 
 pub returns-clause-advances : goal.returns-clause-advances
-returns-clause-advances g c = goes_then g.B.Room.settings _ _ _ c.complete.ensures.advances c.destroy_held.ensures.advances
+returns-clause-advances g c = goes_then g.B.PoolBrand.settings _ _ _ c.complete.ensures.advances c.destroy_held.ensures.advances
 
 pub returns-clause-trace : goal.returns-clause-trace
-returns-clause-trace g c began new fails = unready g.B.Room.settings began c.args.id new c.args.outcome _ _ _ _ fails c.in-Destroy.is c.complete.ensures.appended c.destroy_held.ensures.appended
+returns-clause-trace g c began new fails = unready g.B.PoolBrand.settings began c.args.id new c.args.outcome _ _ _ _ fails c.in-Destroy.is c.complete.ensures.appended c.destroy_held.ensures.appended

@@ -1,5 +1,0 @@
-use Rattle.std.proofs.Common.{rules}
-use Rattle.pool_core.proofs.marks.next_after.Goals as goal
-
-pub returns-in-Make : goal.returns-in-Make
-returns-in-Make c = search rules
