@@ -9,13 +9,12 @@
 //! wrong arguments ask for help or for the version, these are written too.
 #![tactic(auto)]
 
-use pool_arguments::{Task, task_of};
+use pool_cli::{
+    Fault, Task, check_journal, engine_result, refuse, report, report_statistics, run_input,
+    run_script, settings_in, task_of,
+};
 use pool_engines::write_report;
 use pool_load::{Gate, load};
-use pool_tasks::{
-    Fault, check_journal, engine_result, refuse, report, report_statistics, run_input, run_script,
-    settings_in,
-};
 use std::env;
 use std::process::ExitCode;
 use std::sync::Wait;

@@ -1,0 +1,5 @@
+pub mod Help
+pub mod Hints
+pub mod Messages
+pub mod Arguments
+pub mod Matches

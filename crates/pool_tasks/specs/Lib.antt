@@ -1,3 +1,0 @@
-pub mod Help
-pub mod Hints
-pub mod Messages
