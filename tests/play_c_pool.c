@@ -2736,7 +2736,7 @@ static void test_calls_of_an_empty_handle(void) {
   }
   check(zuphinka_next_wake(&pool, &ticket) == ZUPHINKA_STATUS_NOT_OPEN && ticket == 7);
   check(zuphinka_state(&pool, &state) == ZUPHINKA_STATUS_NOT_OPEN && state.waiting == 7);
-  check(zuphinka_set_overtakes(&pool, 1, &ticket) == ZUPHINKA_STATUS_NOT_OPEN && ticket == 7);
+  check(zuphinka_set_overtakes(&pool, 0, 1, &ticket) == ZUPHINKA_STATUS_NOT_OPEN && ticket == 7);
   check(zuphinka_is_lent(&pool, 0, &is_lent) == ZUPHINKA_STATUS_NOT_OPEN && is_lent);
   check(!pool.at);
 }
@@ -3023,7 +3023,7 @@ static void test_longer_waits(void) {
 }
 
 /* A borrow is lent an object at once, and it returns. */
-static void overtake(struct zuphinka *pool) { take_back(pool, 0, 0, lend_at_once(pool, 0, 0)); }
+static void overtake(struct zuphinka *pool, uint64_t at) { take_back(pool, 0, at, lend_at_once(pool, 0, at)); }
 
 /* The bound on overtakes can be raised and lowered while calls wait, but not below what the oldest has seen. */
 static void test_changed_overtakes(void) {
@@ -3031,18 +3031,38 @@ static void test_changed_overtakes(void) {
   struct zuphinka_call call, other;
   struct zuphinka_effects effects;
   uint64_t bound = 7;
-  check(zuphinka_set_overtakes(&pool, 3, &bound) == ZUPHINKA_STATUS_DONE && bound == 3);
+  check(zuphinka_set_overtakes(&pool, 0, 3, &bound) == ZUPHINKA_STATUS_DONE && bound == 3);
   sleeps(&pool, &call);
   take_back(&pool, 0, 0, (struct object){0, &maker});
-  overtake(&pool);
-  overtake(&pool);
-  check(zuphinka_set_overtakes(&pool, 1, &bound) == ZUPHINKA_STATUS_DONE && bound == 2);
+  overtake(&pool, 0);
+  overtake(&pool, 0);
+  check(zuphinka_set_overtakes(&pool, 0, 1, &bound) == ZUPHINKA_STATUS_DONE && bound == 2);
   sleeps(&pool, &other);
   check(advance(&pool, &other, ZUPHINKA_REPORT_GIVEN_UP, &effects) == ZUPHINKA_STATUS_DONE);
-  check(zuphinka_set_overtakes(&pool, UINT64_MAX, &bound) == ZUPHINKA_STATUS_DONE && bound == UINT64_MAX);
-  overtake(&pool);
+  check(zuphinka_set_overtakes(&pool, 0, UINT64_MAX, &bound) == ZUPHINKA_STATUS_DONE && bound == UINT64_MAX);
+  overtake(&pool, 0);
   wakes_to(&pool, &call, ZUPHINKA_ACTION_DONE);
-  check(zuphinka_set_overtakes(&pool, 0, &bound) == ZUPHINKA_STATUS_DONE && bound == 0);
+  check(zuphinka_set_overtakes(&pool, 0, 0, &bound) == ZUPHINKA_STATUS_DONE && bound == 0);
+  zuphinka_drop(&pool);
+}
+
+/* Any number of borrows overtake a call until it has waited for as long as is set, and then as many as are. The time can be changed while it waits. */
+static void test_overtakes_after_a_time(void) {
+  struct zuphinka pool = open_core_lent("maxTotal = 1\n", &(struct zuphinka_options){.max_overtakes = 1, .overtake_millis = 10});
+  struct zuphinka_call call, late;
+  struct zuphinka_effects effects;
+  uint64_t bound = 7;
+  sleeps(&pool, &call);
+  take_back(&pool, 0, 0, (struct object){0, &maker});
+  for (int n = 0; n < 5; n++) overtake(&pool, 9);
+  overtake(&pool, 10);
+  sleeps(&pool, &late);
+  check(advance(&pool, &late, ZUPHINKA_REPORT_GIVEN_UP, &effects) == ZUPHINKA_STATUS_DONE);
+  check(zuphinka_set_overtakes(&pool, 20, 0, &bound) == ZUPHINKA_STATUS_DONE && bound == 1);
+  for (int n = 0; n < 5; n++) overtake(&pool, 19);
+  check(zuphinka_set_overtakes(&pool, 19, 0, &bound) == ZUPHINKA_STATUS_DONE && bound == 1);
+  sleeps(&pool, &late);
+  wakes_to(&pool, &call, ZUPHINKA_ACTION_DONE);
   zuphinka_drop(&pool);
 }
 
@@ -3712,6 +3732,7 @@ static const struct {
     TEST(overtakes_with_hooks),
     TEST(longer_waits),
     TEST(changed_overtakes),
+    TEST(overtakes_after_a_time),
     TEST(lent_objects),
     TEST(unknown_kinds),
     TEST(refused_reports),

@@ -86,11 +86,11 @@ class Player:
         lines = text_of(settings)
         self.settings = {**OF_CALLS, **settings_of("\n".join(lines))}
         hooks = {key: dice.random() < 0.5 for key in HOOKS}
-        overtakes, self.drops = dice.choice((0, 1, 1, 2, 5)), dice.random() < 0.25
-        self.model = Driven(self.settings, hooks, overtakes, self.drops)
+        overtakes, millis, self.drops = dice.choice((0, 1, 1, 2, 5)), dice.choice((0, 0, 5, 50)), dice.random() < 0.25
+        self.model = Driven(self.settings, hooks, overtakes, millis, self.drops)
         flags = ["yes" if flag else "no" for flag in (*(hooks[key] for key in HOOKS), self.drops)]
         # The script, and the lines that it is answered.
-        self.commands, self.answers = [*lines, "", f"pool {overtakes} {' '.join(flags)}"], []
+        self.commands, self.answers = [*lines, "", f"pool {overtakes} {millis} {' '.join(flags)}"], []
         # How likely a factory's call fails and a call is given up, and how many objects callers hold at most.
         self.failing = dice.choice((0.0, 0.05, 0.3))
         self.giving_up = dice.choice((0.0, 0.02, 0.1))

@@ -234,12 +234,13 @@ struct zuphinka_setup {
 
 /* How a pool works besides its settings. */
 struct zuphinka_options {
-  uint64_t pool;          /* the host's number of the pool: its calls bear it, and no call of a pool with another number is taken */
-  uint64_t max_overtakes; /* how often a borrow that waits is overtaken at most, by borrows that begin later; 0: never; from 2^31 - 1 on: any number */
-  bool activates;         /* the host has work to activate an object that is to be lent */
-  bool validates;         /* it tests objects; otherwise each passes, and only an eviction run by testWhileIdle asks for a test, which it reports as passed */
-  bool passivates;        /* it has work to passivate an object that is to be idle */
-  bool drops_journal;     /* the stored entries are forgotten once they are many beside the objects, or leave no room for a step */
+  uint64_t pool;            /* the host's number of the pool: its calls bear it, and no call of a pool with another number is taken */
+  uint64_t max_overtakes;   /* how often a borrow that waits is overtaken at most, by borrows that begin later; 0: never; from 2^31 - 1 on: any number */
+  uint64_t overtake_millis; /* for so long, in milliseconds, a borrow that waits may be overtaken any number of times, and after that max_overtakes times */
+  bool activates;           /* the host has work to activate an object that is to be lent */
+  bool validates;           /* it tests objects; otherwise each passes, and only an eviction run by testWhileIdle asks for a test, which it reports as passed */
+  bool passivates;          /* it has work to passivate an object that is to be idle */
+  bool drops_journal;       /* the stored entries are forgotten once they are many beside the objects, or leave no room for a step */
 };
 
 /* The kind of a call. `id` and `object` are fields of its start. */
@@ -360,7 +361,7 @@ struct zuphinka_activity {
 _Static_assert(sizeof(void *) == 8 && sizeof(size_t) == 8, "zuphinka.h is for 64-bit systems");
 _Static_assert(sizeof(struct zuphinka_request) == 40 && sizeof(struct zuphinka_reply) == 32, "zuphinka.h: another layout of structs");
 _Static_assert(sizeof(struct zuphinka_setup) == 72, "zuphinka.h: another layout of structs");
-_Static_assert(sizeof(struct zuphinka_options) == 24 && sizeof(struct zuphinka_activity) == 24, "zuphinka.h: another layout of structs");
+_Static_assert(sizeof(struct zuphinka_options) == 32 && sizeof(struct zuphinka_activity) == 24, "zuphinka.h: another layout of structs");
 _Static_assert(sizeof(struct zuphinka_start) == 32 && sizeof(struct zuphinka_call) == 104, "zuphinka.h: another layout of structs");
 _Static_assert(sizeof(struct zuphinka_event) == 24 && sizeof(struct zuphinka_effects) == 72, "zuphinka.h: another layout of structs");
 #endif
@@ -523,12 +524,12 @@ uint32_t zuphinka_advance(struct zuphinka *pool, struct zuphinka_call *call, con
 uint32_t zuphinka_next_wake(struct zuphinka *pool, uint64_t *ticket);
 
 /*
- * Lets each call that waits be overtaken at most `most` times from now on, 0 for never, and stores this bound in `bound`. If the oldest one was
- * already overtaken more often, the bound is the number of times it was; ask again once it waits no longer.
+ * From now on each call that has waited for `millis` milliseconds is overtaken at most `most` times, 0 for never. Stores this bound in `bound`. If the
+ * oldest one was already overtaken more often, the bound is the number of times it was; ask again once it waits no longer.
  *
  * Returns ZUPHINKA_STATUS_DONE; or ZUPHINKA_STATUS_NOT_OPEN, and `bound` is unchanged.
  */
-uint32_t zuphinka_set_overtakes(struct zuphinka *pool, uint64_t most, uint64_t *bound);
+uint32_t zuphinka_set_overtakes(struct zuphinka *pool, uint64_t millis, uint64_t most, uint64_t *bound);
 
 /*
  * Stores in `is_lent` whether the object with this id is lent: not so one that was reclaimed from its holder. Returns ZUPHINKA_STATUS_DONE; or

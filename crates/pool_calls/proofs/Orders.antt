@@ -1,10 +1,10 @@
 -- The pairs of both queues, in one order, and the waiters that they are seen as.
-use Rattle.std.proofs.Common.{◌≡◌, ℕ, ◌+◌, ◌-◌, ◌<◌, ◌≤◌, eqb, Bool, true, false, not, ◌&&◌, ◌||◌, cond, if◌then◌else◌, List, [], ◌∷◌, ◌++◌, length, take, Some, None, Result, Ok, Err, OnOk, refl, sym, ap, ◌∙◌, subst, arith, append_assoc, append-nil, length-append}
-use Rattle.std.specs.Prelude.{map, min, filter, slice_get, nat_lt}
+use Rattle.std.proofs.Common.{◌≡◌, ◌≢◌, ℕ, suc, ◌+◌, ◌-◌, ◌<◌, ◌≤◌, eqb, Bool, true, false, not, ◌&&◌, ◌||◌, cond, if◌then◌else◌, List, [], ◌∷◌, ◌++◌, length, take, Some, None, Result, Ok, Err, OnOk, refl, sym, ap, ◌∙◌, subst, arith, append_assoc, append-nil, length-append}
+use Rattle.std.specs.Prelude.{map, min, filter, find, slice_get, unwrap_or, nat_le, nat_lt}
 use Rattle.std.specs.List.{AllByRecursion}
 use Rattle.std.specs.Option.{option_map}
 use Rattle.std.proofs.Math.Seq.{take-append_seam, get_or-append_seam}
-use Rattle.std.proofs.lemmas.Bool.{ne_eqb}
+use Rattle.std.proofs.lemmas.Bool.{both_ways, eq-eqb, ne_eqb}
 use Rattle.std.proofs.lemmas.Bool.Decides.{nat_tests}
 use Rattle.std.proofs.lemmas.List.{map-append, length-map}
 use Rattle.std.proofs.lemmas.List.Elements.{filter-append}
@@ -13,9 +13,9 @@ use Rattle.std.proofs.lemmas.List.Folds.{list_any-append}
 use Rattle.std.proofs.lemmas.Option.{slice_get_read, slice_get_past}
 use Rattle.sorted_index.specs.declared.pair.Pair.{Pair}
 use Rattle.sorted_index.specs.Pairs.{Row, first_of, has_id, IdsAbove, IdsBelow, IsAscending, without as without_id}
-use Rattle.pool_calls.specs.Order.{waiter_of, AreFair, IsQueue}
-use Rattle.pool_calls.specs.Waiting.{Waiter, Queue, is_in, without, most_overtaken, overtaken_once, can_pass, may_lend, takes_from_waiters, IsByArrival}
-use Rattle.sorted_index.proofs.Keys.{all_filter, ascending_filter}
+use Rattle.pool_calls.specs.Order.{waiter_of, since_of, AreFair, AreTimed, IsQueue}
+use Rattle.pool_calls.specs.Waiting.{Waiter, Queue, is_in, without, newest, most_overtaken, overtaken_once, is_due, counts_overtake, can_pass, may_lend, CountsOnceDue, IsByArrival}
+use Rattle.sorted_index.proofs.Keys.{all_filter, ascending_filter, key_push_other, key_pushed, key_without_other}
 use Rattle.sorted_index.proofs.Pushed.{all_push, ascending_push}
 
 -- ---- parts of a list
@@ -47,11 +47,11 @@ below_next n [] all = tt
 below_next n (p ∷ ps) all = (omega (arith, all.0), below_next n ps all.1)
 
 -- a ticket above all others is none of them
-pub below_out : (n o : ℕ) (ps : List Pair) → IdsBelow n ps → is_in n (map (waiter_of o) ps) ≡ false
-below_out n o [] all = refl
-below_out n o (p ∷ ps) all =
+pub below_out : (n o : ℕ) (ts ps : List Pair) → IdsBelow n ps → is_in n (map (waiter_of o ts) ps) ≡ false
+below_out n o ts [] all = refl
+below_out n o ts (p ∷ ps) all =
     let other : eqb n p.id ≡ false = ne_eqb n p.id (λ same. grind (arith, all.0, same)) in
-    ap (λ b. b || is_in n (map (waiter_of o) ps)) other ∙ below_out n o ps all.1
+    ap (λ b. b || is_in n (map (waiter_of o ts) ps)) other ∙ below_out n o ts ps all.1
 
 -- ---- fairness
 befores : (overtakes most : ℕ) (ps : List Pair) → AreFair overtakes most ps → AllByRecursion (λ p. p.key ≤ overtakes) ps
@@ -73,23 +73,23 @@ and_first true b both = refl
 and_first false b both = both
 
 -- the first ticket was overtaken fewer than `most` times, so all of them may be
-pub raised : (o m : ℕ) (ps : List Pair) → can_pass o m (map (waiter_of o) ps) ≡ true → AreFair o m ps → AreFair (o + 1) m ps
-raised o m [] may fair = tt
-raised o m (p ∷ ps) may fair =
+pub raised : (o m : ℕ) (ts ps : List Pair) → can_pass o m (map (waiter_of o ts) ps) ≡ true → AreFair o m ps → AreFair (o + 1) m ps
+raised o m ts [] may fair = tt
+raised o m ts (p ∷ ps) may fair =
     let first : o - p.key < m = let less = and_first (nat_lt (o - p.key) m) _ may in grind (arith, nat_tests) in
     let once : o + 1 ≤ p.key + m = omega (arith, first, fair.0) in
     (omega (arith, fair.0), once, fair.2, raise o m p.key ps once fair.2 fair.3)
 
-pub overtaken_all : (o m : ℕ) (ps : List Pair) → AreFair o m ps → map (waiter_of (o + 1)) ps ≡ map overtaken_once (map (waiter_of o) ps)
-overtaken_all o m [] fair = refl
-overtaken_all o m (p ∷ ps) fair =
+pub overtaken_all : (o m : ℕ) (ts ps : List Pair) → AreFair o m ps → map (waiter_of (o + 1) ts) ps ≡ map overtaken_once (map (waiter_of o ts) ps)
+overtaken_all o m ts [] fair = refl
+overtaken_all o m ts (p ∷ ps) fair =
     let more : (o + 1) - p.key ≡ (o - p.key) + 1 = omega (arith, fair.0) in
-    let W : ℕ → Waiter = λ n. record { ticket = p.id; overtaken = n } in
-    ap (λ n. W n ∷ map (waiter_of (o + 1)) ps) more ∙ ap (λ ws. overtaken_once (waiter_of o p) ∷ ws) (overtaken_all o m ps fair.3)
+    let W : ℕ → Waiter = λ n. record { ticket = p.id; overtaken = n; since = since_of ts p.id } in
+    ap (λ n. W n ∷ map (waiter_of (o + 1) ts) ps) more ∙ ap (λ ws. overtaken_once (waiter_of o ts p) ∷ ws) (overtaken_all o m ts ps fair.3)
 
-pub fair_waiters : (o m : ℕ) (ps : List Pair) → AreFair o m ps → AllByRecursion (λ w. w.overtaken ≤ m) (map (waiter_of o) ps)
-fair_waiters o m [] fair = tt
-fair_waiters o m (p ∷ ps) fair = (omega (arith, fair.0, fair.1), fair_waiters o m ps fair.3)
+pub fair_waiters : (o m : ℕ) (ts ps : List Pair) → AreFair o m ps → AllByRecursion (λ w. w.overtaken ≤ m) (map (waiter_of o ts) ps)
+fair_waiters o m ts [] fair = tt
+fair_waiters o m ts (p ∷ ps) fair = (omega (arith, fair.0, fair.1), fair_waiters o m ts ps fair.3)
 
 -- another bound that none of them exceeds, if it is none that the first exceeds
 rebound : (o m n b : ℕ) (ps : List Pair) → o ≤ b + n → AllByRecursion (λ q. b ≤ q.key) ps → AreFair o m ps → AreFair o n ps
@@ -97,71 +97,163 @@ rebound o m n b [] within later fair = tt
 rebound o m n b (p ∷ ps) within later fair =
     (fair.0, omega (arith, within, later.0), fair.2, rebound o m n b ps within later.1 fair.3)
 
-pub limited : (o m n : ℕ) (ps : List Pair) → most_overtaken (map (waiter_of o) ps) ≤ n → AreFair o m ps → AreFair o n ps
-limited o m n [] within fair = tt
-limited o m n (p ∷ ps) within fair =
+pub limited : (o m n : ℕ) (ts ps : List Pair) → most_overtaken (map (waiter_of o ts) ps) ≤ n → AreFair o m ps → AreFair o n ps
+limited o m n ts [] within fair = tt
+limited o m n ts (p ∷ ps) within fair =
     let first : o ≤ p.key + n = omega (arith, within, fair.0) in
     (fair.0, first, fair.2, rebound o m n p.key ps first fair.2 fair.3)
 
 -- ---- waiters
-arrival_above : (o t : ℕ) (ps : List Pair) → IdsAbove t ps → AllByRecursion (λ w. t < w.ticket) (map (waiter_of o) ps)
-arrival_above o t [] all = tt
-arrival_above o t (p ∷ ps) all = (all.0, arrival_above o t ps all.1)
+arrival_above : (o t : ℕ) (ts ps : List Pair) → IdsAbove t ps → AllByRecursion (λ w. t < w.ticket) (map (waiter_of o ts) ps)
+arrival_above o t ts [] all = tt
+arrival_above o t ts (p ∷ ps) all = (all.0, arrival_above o t ts ps all.1)
 
-pub by_arrival : (o : ℕ) (ps : List Pair) → IsAscending ps → IsByArrival (map (waiter_of o) ps)
-by_arrival o [] up = tt
-by_arrival o (p ∷ ps) up = (arrival_above o p.id ps up.0, by_arrival o ps up.1)
+-- the time of an earlier ticket says nothing of the later ones
+since_later : (t : Pair) (ts : List Pair) (i : ℕ) → t.id < i → since_of (t ∷ ts) i ≡ since_of ts i
+since_later t ts i above =
+    let other : eqb i t.id ≡ false = ne_eqb i t.id (λ same. grind (arith, above, same)) in
+    ap (λ b. unwrap_or (option_map (λ p. p.key) (cond b (Some t) (find (λ p. eqb i p.id) ts))) 0) other
 
-is_in-waiters : (t o : ℕ) (ps : List Pair) → is_in t (map (waiter_of o) ps) ≡ has_id t ps
-is_in-waiters t o [] = refl
-is_in-waiters t o (p ∷ ps) = ap (λ b. eqb t p.id || b) (is_in-waiters t o ps)
+waiters_later : (o : ℕ) (t : Pair) (ts ps : List Pair) → IdsAbove t.id ps → map (waiter_of o (t ∷ ts)) ps ≡ map (waiter_of o ts) ps
+waiters_later o t ts [] above = refl
+waiters_later o t ts (p ∷ ps) above =
+    let W : ℕ → Waiter = λ n. record { ticket = p.id; overtaken = o - p.key; since = n } in
+    ap (λ n. W n ∷ map (waiter_of o (t ∷ ts)) ps) (since_later t ts p.id above.0) ∙ ap (λ ws. waiter_of o ts p ∷ ws) (waiters_later o t ts ps above.1)
 
-without-waiters : (t o : ℕ) (ps : List Pair) → without t (map (waiter_of o) ps) ≡ map (waiter_of o) (without_id t ps)
-without-waiters t o [] = refl
-without-waiters t o (p ∷ ps) = by_test (eqb t p.id) (without-waiters t o ps)
+-- the time of the first ticket
+since_first : (t : Pair) (ts : List Pair) (i : ℕ) → t.id ≡ i → since_of (t ∷ ts) i ≡ t.key
+since_first t ts i same = ap (λ b. unwrap_or (option_map (λ p. p.key) (cond b (Some t) (find (λ p. eqb i p.id) ts))) 0) (eq-eqb i t.id (sym same))
+
+-- all tickets wait from this time on, or later
+since_above : (o l k : ℕ) (ps ts : List Pair) → IsAscending ps → AreTimed l ps ts → AllByRecursion (λ u. k ≤ u.key) ts → AllByRecursion (λ w. k ≤ w.since) (map (waiter_of o ts) ps)
+since_above o l k [] [] up timed all = tt
+since_above o l k [] (t ∷ ts) up timed all = tt
+since_above o l k (p ∷ ps) [] up timed all = absurd timed
+since_above o l k (p ∷ ps) (t ∷ ts) up timed all =
+    let above : IdsAbove t.id ps = subst (λ (n : ℕ). IdsAbove n ps) (sym timed.0) up.0 in
+    let rest = subst (AllByRecursion (λ w. k ≤ w.since)) (sym (waiters_later o t ts ps above)) (since_above o l k ps ts up.1 timed.3 all.1) in
+    (subst (λ (n : ℕ). k ≤ n) (sym (since_first t ts p.id timed.0)) all.0, rest)
+
+pub by_arrival : (o l : ℕ) (ps ts : List Pair) → IsAscending ps → AreTimed l ps ts → IsByArrival (map (waiter_of o ts) ps)
+by_arrival o l [] ts up timed = tt
+by_arrival o l (p ∷ ps) [] up timed = absurd timed
+by_arrival o l (p ∷ ps) (t ∷ ts) up timed =
+    let above : IdsAbove t.id ps = subst (λ (n : ℕ). IdsAbove n ps) (sym timed.0) up.0 in
+    let same = sym (waiters_later o t ts ps above) in
+    let first = sym (since_first t ts p.id timed.0) in
+    let later = subst (AllByRecursion (λ w. t.key ≤ w.since)) same (since_above o l t.key ps ts up.1 timed.3 timed.2) in
+    (arrival_above o p.id (t ∷ ts) ps up.0, subst (λ (n : ℕ). AllByRecursion (λ w. n ≤ w.since) (map (waiter_of o (t ∷ ts)) ps)) first later, subst IsByArrival same (by_arrival o l ps ts up.1 timed.3))
+
+-- the first ticket has waited for so long
+pub due_of_none : (o l m at : ℕ) (ps ts : List Pair) → AreTimed l ps ts → first_of ts ≡ None → is_due m at (map (waiter_of o ts) ps) ≡ false
+due_of_none o l m at [] ts timed none = refl
+due_of_none o l m at (p ∷ ps) [] timed none = absurd timed
+due_of_none o l m at (p ∷ ps) (t ∷ ts) timed none = absurd (cc)
+
+pub due_of_first : (o l m at : ℕ) (ps ts : List Pair) (first : Pair) → AreTimed l ps ts → first_of ts ≡ Some first → is_due m at (map (waiter_of o ts) ps) ≡ nat_le m (at - first.key)
+due_of_first o l m at ps [] first timed is = absurd (cc)
+due_of_first o l m at [] (t ∷ ts) first timed is = absurd timed
+due_of_first o l m at (p ∷ ps) (t ∷ ts) first timed is =
+    let same : t ≡ first = cc in
+    ap (λ n. nat_le m (at - n)) (since_first t ts p.id timed.0) ∙ ap (λ (q : Pair). nat_le m (at - q.key)) same
+
+is_in-waiters : (t o : ℕ) (ts ps : List Pair) → is_in t (map (waiter_of o ts) ps) ≡ has_id t ps
+is_in-waiters t o ts [] = refl
+is_in-waiters t o ts (p ∷ ps) = ap (λ b. eqb t p.id || b) (is_in-waiters t o ts ps)
+
+without-waiters : (t o : ℕ) (ts ps : List Pair) → without t (map (waiter_of o ts) ps) ≡ map (waiter_of o ts) (without_id t ps)
+without-waiters t o ts [] = refl
+without-waiters t o ts (p ∷ ps) = by_test (eqb t p.id) (without-waiters t o ts ps)
   where
-    by_test : (b : Bool) → without t (map (waiter_of o) ps) ≡ map (waiter_of o) (without_id t ps)
-        → cond (not b) (waiter_of o p ∷ without t (map (waiter_of o) ps)) (without t (map (waiter_of o) ps)) ≡ map (waiter_of o) (cond (not b) (p ∷ without_id t ps) (without_id t ps))
+    by_test : (b : Bool) → without t (map (waiter_of o ts) ps) ≡ map (waiter_of o ts) (without_id t ps)
+        → cond (not b) (waiter_of o ts p ∷ without t (map (waiter_of o ts) ps)) (without t (map (waiter_of o ts) ps)) ≡ map (waiter_of o ts) (cond (not b) (p ∷ without_id t ps) (without_id t ps))
     by_test true rest = rest
-    by_test false rest = ap (λ ws. waiter_of o p ∷ ws) rest
+    by_test false rest = ap (λ ws. waiter_of o ts p ∷ ws) rest
 
 -- the signalled waiters are those of the first queue
-pub signalled_waiters : (o : ℕ) (ps qs : List Pair) → take (length ps) (map (waiter_of o) (ps ++ qs)) ≡ map (waiter_of o) ps
-signalled_waiters o ps qs =
-    ap (λ ws. take (length ps) ws) (map-append (waiter_of o) ps qs) ∙ ap (λ n. take n (map (waiter_of o) ps ++ map (waiter_of o) qs)) (sym (length-map ps (waiter_of o))) ∙ take-append_seam (map (waiter_of o) ps) (map (waiter_of o) qs)
+pub signalled_waiters : (o : ℕ) (ts ps qs : List Pair) → take (length ps) (map (waiter_of o ts) (ps ++ qs)) ≡ map (waiter_of o ts) ps
+signalled_waiters o ts ps qs =
+    ap (λ ws. take (length ps) ws) (map-append (waiter_of o ts) ps qs) ∙ ap (λ n. take n (map (waiter_of o ts) ps ++ map (waiter_of o ts) qs)) (sym (length-map ps (waiter_of o ts))) ∙ take-append_seam (map (waiter_of o ts) ps) (map (waiter_of o ts) qs)
 
-pub is_signalled_in : (t o : ℕ) (ps qs : List Pair) → is_in t (take (length ps) (map (waiter_of o) (ps ++ qs))) ≡ has_id t ps
-is_signalled_in t o ps qs = ap (is_in t) (signalled_waiters o ps qs) ∙ is_in-waiters t o ps
+pub is_signalled_in : (t o : ℕ) (ts ps qs : List Pair) → is_in t (take (length ps) (map (waiter_of o ts) (ps ++ qs))) ≡ has_id t ps
+is_signalled_in t o ts ps qs = ap (is_in t) (signalled_waiters o ts ps qs) ∙ is_in-waiters t o ts ps
 
-pub waited : (t o : ℕ) (ps qs : List Pair) → is_in t (map (waiter_of o) (ps ++ qs)) ≡ (has_id t ps || has_id t qs)
-waited t o ps qs = is_in-waiters t o (ps ++ qs) ∙ list_any-append (λ p. eqb t p.id) ps qs
+pub waited : (t o : ℕ) (ts ps qs : List Pair) → is_in t (map (waiter_of o ts) (ps ++ qs)) ≡ (has_id t ps || has_id t qs)
+waited t o ts ps qs = is_in-waiters t o ts (ps ++ qs) ∙ list_any-append (λ p. eqb t p.id) ps qs
 
 left_all : (t : ℕ) (ps qs : List Pair) → without_id t (ps ++ qs) ≡ without_id t ps ++ without_id t qs
 left_all t ps qs = filter-append (λ p. not (eqb t p.id)) ps qs
 
-pub left : (t o : ℕ) (ps qs rs ss : List Pair) → rs ≡ without_id t ps → ss ≡ without_id t qs → map (waiter_of o) (rs ++ ss) ≡ without t (map (waiter_of o) (ps ++ qs))
-left t o ps qs rs ss r s =
-    ap (λ xs. map (waiter_of o) (xs ++ ss)) r ∙ ap (λ xs. map (waiter_of o) (without_id t ps ++ xs)) s ∙ ap (map (waiter_of o)) (sym (left_all t ps qs)) ∙ sym (without-waiters t o (ps ++ qs))
+-- the time of a ticket that left says nothing of the others
+waiters_left : (t o : ℕ) (ts ps : List Pair) → map (waiter_of o (without_id t ts)) (without_id t ps) ≡ map (waiter_of o ts) (without_id t ps)
+waiters_left t o ts [] = refl
+waiters_left t o ts (p ∷ ps) = by_test (eqb t p.id) refl (waiters_left t o ts ps)
+  where
+    by_test : (b : Bool) → eqb t p.id ≡ b → map (waiter_of o (without_id t ts)) (without_id t ps) ≡ map (waiter_of o ts) (without_id t ps)
+        → map (waiter_of o (without_id t ts)) (cond (not b) (p ∷ without_id t ps) (without_id t ps)) ≡ map (waiter_of o ts) (cond (not b) (p ∷ without_id t ps) (without_id t ps))
+    by_test true is rest = rest
+    by_test false is rest =
+        let W : ℕ → Waiter = λ n. record { ticket = p.id; overtaken = o - p.key; since = n } in
+        let other : p.id ≢ t = λ same. absurd (both_ways (eqb t p.id) is (eq-eqb t p.id (sym same))) in
+        ap (λ n. W n ∷ map (waiter_of o (without_id t ts)) (without_id t ps)) (ap (λ k. unwrap_or k 0) (key_without_other t p.id ts other)) ∙ ap (λ ws. waiter_of o ts p ∷ ws) rest
 
-pub left_signalled : (t o : ℕ) (ps qs rs : List Pair) → rs ≡ without_id t ps → length rs ≡ length (without t (take (length ps) (map (waiter_of o) (ps ++ qs))))
-left_signalled t o ps qs rs r =
-    ap (length {A = Pair}) r ∙ sym (length-map (without_id t ps) (waiter_of o)) ∙ ap (length {A = Waiter}) (sym (without-waiters t o ps) ∙ ap (without t) (sym (signalled_waiters o ps qs)))
+pub left : (t o : ℕ) (ts ps qs us rs ss : List Pair) → us ≡ without_id t ts → rs ≡ without_id t ps → ss ≡ without_id t qs → map (waiter_of o us) (rs ++ ss) ≡ without t (map (waiter_of o ts) (ps ++ qs))
+left t o ts ps qs us rs ss u r s =
+    ap (λ xs. map (waiter_of o xs) (rs ++ ss)) u ∙ ap (λ xs. map (waiter_of o (without_id t ts)) (xs ++ ss)) r ∙ ap (λ xs. map (waiter_of o (without_id t ts)) (without_id t ps ++ xs)) s
+    ∙ ap (map (waiter_of o (without_id t ts))) (sym (left_all t ps qs)) ∙ waiters_left t o ts (ps ++ qs) ∙ sym (without-waiters t o ts (ps ++ qs))
+
+pub left_signalled : (t o : ℕ) (ts ps qs rs : List Pair) → rs ≡ without_id t ps → length rs ≡ length (without t (take (length ps) (map (waiter_of o ts) (ps ++ qs))))
+left_signalled t o ts ps qs rs r =
+    ap (length {A = Pair}) r ∙ sym (length-map (without_id t ps) (waiter_of o ts)) ∙ ap (length {A = Waiter}) (sym (without-waiters t o ts ps) ∙ ap (without t) (sym (signalled_waiters o ts ps qs)))
+
+-- a ticket that comes has a time of its own
+waiters_push : (o : ℕ) (t : Pair) (ts ps : List Pair) → IdsBelow t.id ps → map (waiter_of o (ts ++ t ∷ [])) ps ≡ map (waiter_of o ts) ps
+waiters_push o t ts [] below = refl
+waiters_push o t ts (p ∷ ps) below =
+    let W : ℕ → Waiter = λ n. record { ticket = p.id; overtaken = o - p.key; since = n } in
+    let other : p.id ≢ t.id = λ same. omega (arith, below.0, same) in
+    ap (λ n. W n ∷ map (waiter_of o (ts ++ t ∷ [])) ps) (ap (λ k. unwrap_or k 0) (key_push_other p.id ts t other)) ∙ ap (λ ws. waiter_of o ts p ∷ ws) (waiters_push o t ts ps below.1)
+
+-- the ids of the times are those of the tickets
+pub timed_below : (l n : ℕ) (ps ts : List Pair) → AreTimed l ps ts → IdsBelow n ps → IdsBelow n ts
+timed_below l n [] [] timed below = tt
+timed_below l n [] (t ∷ ts) timed below = absurd timed
+timed_below l n (p ∷ ps) [] timed below = absurd timed
+timed_below l n (p ∷ ps) (t ∷ ts) timed below = (omega (arith, timed.0, below.0), timed_below l n ps ts timed.3 below.1)
+
+pub timed_few : (l : ℕ) (ps ts : List Pair) → AreTimed l ps ts → length ts ≡ length ps
+timed_few l [] [] timed = refl
+timed_few l [] (t ∷ ts) timed = absurd timed
+timed_few l (p ∷ ps) [] timed = absurd timed
+timed_few l (p ∷ ps) (t ∷ ts) timed = ap suc (timed_few l ps ts timed.3)
+
+pub pushed : (o l : ℕ) (ts us ps qs rs : List Pair) (p t : Pair) → AreTimed l (ps ++ qs) ts → IdsBelow p.id (ps ++ qs) → p.key ≡ o → t.id ≡ p.id → us ≡ ts ++ t ∷ [] → rs ≡ qs ++ p ∷ [] → map (waiter_of o us) (ps ++ rs) ≡ map (waiter_of o ts) (ps ++ qs) ++ newest p.id t.key ∷ []
+pushed o l ts us ps qs rs p t timed below now same grown is =
+    let all : List Pair = ps ++ qs in
+    let W : ℕ → ℕ → Waiter = λ n m. record { ticket = p.id; overtaken = n; since = m } in
+    let none : o - p.key ≡ 0 = omega (arith, now) in
+    let since : since_of (ts ++ t ∷ []) p.id ≡ t.key =
+    ap (since_of (ts ++ t ∷ [])) (sym same) ∙ ap (λ k. unwrap_or k 0) (key_pushed ts t (subst (λ (n : ℕ). IdsBelow n ts) (sym same) (timed_below l p.id all ts timed below))) in
+    ap (λ xs. map (waiter_of o us) (ps ++ xs)) is ∙ ap (map (waiter_of o us)) (sym (append_assoc ps qs (p ∷ []))) ∙ map-append (waiter_of o us) all (p ∷ [])
+    ∙ ap (λ xs. map (waiter_of o xs) all ++ map (waiter_of o xs) (p ∷ [])) grown
+    ∙ ap (λ ws. ws ++ waiter_of o (ts ++ t ∷ []) p ∷ []) (waiters_push o t ts all (subst (λ (n : ℕ). IdsBelow n all) (sym same) below))
+    ∙ ap (λ n. map (waiter_of o ts) all ++ W n (since_of (ts ++ t ∷ []) p.id) ∷ []) none ∙ ap (λ m. map (waiter_of o ts) all ++ W 0 m ∷ []) since
 
 -- the oldest ticket that sleeps
-pub oldest_ticket : (o : ℕ) (ps qs rest : List Pair) (p : Pair) → qs ≡ p ∷ rest → Some p.id ≡ option_map (λ w. w.ticket) (slice_get (map (waiter_of o) (ps ++ qs)) (length ps))
-oldest_ticket o ps qs rest p is =
-    let ws : List Waiter = map (waiter_of o) ps in
-    let vs : List Waiter = map (waiter_of o) rest in
-    let all : map (waiter_of o) (ps ++ qs) ≡ ws ++ waiter_of o p ∷ vs = ap (λ xs. map (waiter_of o) (ps ++ xs)) is ∙ map-append (waiter_of o) ps (p ∷ rest) in
-    let long : length ps ≡ length ws = sym (length-map ps (waiter_of o)) in
-    let inside : length ws < length (ws ++ waiter_of o p ∷ vs) = omega (arith, length-append ws (waiter_of o p ∷ vs)) in
-    let read : slice_get (ws ++ waiter_of o p ∷ vs) (length ws) ≡ Some (waiter_of o p) = slice_get_read (ws ++ waiter_of o p ∷ vs) _ (length ws) (waiter_of o p) refl inside (sym (get_or-append_seam ws (waiter_of o p) vs (waiter_of o p))) in
-    ap (option_map (λ w. w.ticket)) (sym read ∙ ap (λ n. slice_get (ws ++ waiter_of o p ∷ vs) n) (sym long) ∙ ap (λ xs. slice_get xs (length ps)) (sym all))
+pub oldest_ticket : (o : ℕ) (ts ps qs rest : List Pair) (p : Pair) → qs ≡ p ∷ rest → Some p.id ≡ option_map (λ w. w.ticket) (slice_get (map (waiter_of o ts) (ps ++ qs)) (length ps))
+oldest_ticket o ts ps qs rest p is =
+    let ws : List Waiter = map (waiter_of o ts) ps in
+    let vs : List Waiter = map (waiter_of o ts) rest in
+    let all : map (waiter_of o ts) (ps ++ qs) ≡ ws ++ waiter_of o ts p ∷ vs = ap (λ xs. map (waiter_of o ts) (ps ++ xs)) is ∙ map-append (waiter_of o ts) ps (p ∷ rest) in
+    let long : length ps ≡ length ws = sym (length-map ps (waiter_of o ts)) in
+    let inside : length ws < length (ws ++ waiter_of o ts p ∷ vs) = omega (arith, length-append ws (waiter_of o ts p ∷ vs)) in
+    let read : slice_get (ws ++ waiter_of o ts p ∷ vs) (length ws) ≡ Some (waiter_of o ts p) = slice_get_read (ws ++ waiter_of o ts p ∷ vs) _ (length ws) (waiter_of o ts p) refl inside (sym (get_or-append_seam ws (waiter_of o ts p) vs (waiter_of o ts p))) in
+    ap (option_map (λ w. w.ticket)) (sym read ∙ ap (λ n. slice_get (ws ++ waiter_of o ts p ∷ vs) n) (sym long) ∙ ap (λ xs. slice_get xs (length ps)) (sym all))
 
-pub none_asleep : (o : ℕ) (ps qs : List Pair) → qs ≡ [] → None ≡ option_map (λ w. w.ticket) (slice_get (map (waiter_of o) (ps ++ qs)) (length ps))
-none_asleep o ps qs is =
-    let long : length (map (waiter_of o) (ps ++ qs)) ≡ length ps = length-map (ps ++ qs) (waiter_of o) ∙ ap (λ xs. length (ps ++ xs)) is ∙ ap (length {A = Pair}) (append-nil ps) in
-    ap (option_map (λ w. w.ticket)) (sym (slice_get_past (map (waiter_of o) (ps ++ qs)) (length ps) (omega (arith, long))))
+pub none_asleep : (o : ℕ) (ts ps qs : List Pair) → qs ≡ [] → None ≡ option_map (λ w. w.ticket) (slice_get (map (waiter_of o ts) (ps ++ qs)) (length ps))
+none_asleep o ts ps qs is =
+    let long : length (map (waiter_of o ts) (ps ++ qs)) ≡ length ps = length-map (ps ++ qs) (waiter_of o ts) ∙ ap (λ xs. length (ps ++ xs)) is ∙ ap (length {A = Pair}) (append-nil ps) in
+    ap (option_map (λ w. w.ticket)) (sym (slice_get_past (map (waiter_of o ts) (ps ++ qs)) (length ps) (omega (arith, long))))
 
 -- ---- the invariant
 fair_filter : (o m : ℕ) (test : Pair → Bool) (ps : List Pair) → AreFair o m ps → AreFair o m (filter test ps)
@@ -175,8 +267,35 @@ fair_filter o m test (p ∷ ps) fair = by_test (test p) (all_filter (λ q. p.key
 fewer : (test : Pair → Bool) (ps : List Pair) → length (filter test ps) ≤ length ps
 fewer test ps = omega (arith, length-filter_both test (λ p. not (test p)) (λ p. refl) ps)
 
-pub left_queue : (t d o m : ℕ) (s a s2 a2 : Row) → IsQueue s a d o m → s2.pairs ≡ without_id t s.pairs → a2.pairs ≡ without_id t a.pairs → s2.capacity ≡ s.capacity → a2.capacity ≡ a.capacity → IsQueue s2 a2 d o m
-left_queue t d o m s a s2 a2 old r q room room2 =
+timed_filter : (l : ℕ) (t : ℕ) (ps ts : List Pair) → AreTimed l ps ts → AreTimed l (without_id t ps) (without_id t ts)
+timed_filter l t [] [] timed = tt
+timed_filter l t [] (u ∷ ts) timed = absurd timed
+timed_filter l t (p ∷ ps) [] timed = absurd timed
+timed_filter l t (p ∷ ps) (u ∷ ts) timed =
+    by_tests (eqb t p.id) (eqb t u.id) (ap (eqb t) timed.0) (all_filter (λ q. u.key ≤ q.key) (λ q. not (eqb t q.id)) ts timed.2) (timed_filter l t ps ts timed.3)
+  where
+    by_tests : (a b : Bool) → b ≡ a → AllByRecursion (λ q. u.key ≤ q.key) (without_id t ts) → AreTimed l (without_id t ps) (without_id t ts)
+        → AreTimed l (cond (not a) (p ∷ without_id t ps) (without_id t ps)) (cond (not b) (u ∷ without_id t ts) (without_id t ts))
+    by_tests true true same later rest = rest
+    by_tests false false same later rest = (timed.0, timed.1, later, rest)
+    by_tests true false same later rest = absurd (cc same)
+    by_tests false true same later rest = absurd (cc same)
+
+raise_latest : (l n : ℕ) (ps ts : List Pair) → l ≤ n → AreTimed l ps ts → AreTimed n ps ts
+raise_latest l n [] [] more timed = tt
+raise_latest l n [] (t ∷ ts) more timed = absurd timed
+raise_latest l n (p ∷ ps) [] more timed = absurd timed
+raise_latest l n (p ∷ ps) (t ∷ ts) more timed = (timed.0, omega (arith, more, timed.1), timed.2, raise_latest l n ps ts more timed.3)
+
+timed_push : (l : ℕ) (ps ts : List Pair) (p t : Pair) → t.id ≡ p.id → l ≤ t.key → AreTimed l ps ts → AreTimed t.key (ps ++ p ∷ []) (ts ++ t ∷ [])
+timed_push l [] [] p t same later timed = (same, omega arith, tt, tt)
+timed_push l [] (u ∷ ts) p t same later timed = absurd timed
+timed_push l (q ∷ ps) [] p t same later timed = absurd timed
+timed_push l (q ∷ ps) (u ∷ ts) p t same later timed =
+    (timed.0, omega (arith, timed.1, later), all_push (λ x. u.key ≤ x.key) ts t timed.2 (omega (arith, timed.1, later)), timed_push l ps ts p t same later timed.3)
+
+pub left_queue : (t l d o m : ℕ) (s a ts s2 a2 ts2 : Row) → IsQueue s a ts l d o m → s2.pairs ≡ without_id t s.pairs → a2.pairs ≡ without_id t a.pairs → ts2.pairs ≡ without_id t ts.pairs → s2.capacity ≡ s.capacity → a2.capacity ≡ a.capacity → ts2.capacity ≡ ts.capacity → IsQueue s2 a2 ts2 l d o m
+left_queue t l d o m s a ts s2 a2 ts2 old r q u room room2 room3 =
     let test : Pair → Bool = λ p. not (eqb t p.id) in
     let all : List Pair = s.pairs ++ a.pairs in
     let is : filter test all ≡ s2.pairs ++ a2.pairs = left_all t s.pairs a.pairs ∙ ap (λ xs. xs ++ without_id t a.pairs) (sym r) ∙ ap (λ xs. s2.pairs ++ xs) (sym q) in
@@ -184,11 +303,12 @@ left_queue t d o m s a s2 a2 old r q room room2 =
       ascending = subst IsAscending is (ascending_filter test all old.ascending);
       drawn_before = subst (IdsBelow d) is (all_filter (λ p. p.id < d) test all old.drawn_before);
       fair = subst (AreFair o m) is (fair_filter o m test all old.fair);
-      fit = omega (arith, old.fit, fewer test all, ap (length {A = Pair}) is, room, room2);
+      timed = subst (λ xs. AreTimed l xs ts2.pairs) is (subst (AreTimed l (filter test all)) (sym u) (timed_filter l t all ts.pairs old.timed));
+      fit = omega (arith, old.fit, fewer test all, ap (length {A = Pair}) is, room, room2, room3);
     }
 
-pub pushed_queue : (d o m : ℕ) (s a a2 : Row) (p : Pair) → IsQueue s a d o m → p.id ≡ d → p.key ≡ o → a2.pairs ≡ a.pairs ++ p ∷ [] → a2.capacity ≡ a.capacity → length (s.pairs ++ a.pairs) + 1 ≤ min s.capacity a.capacity → IsQueue s a2 (d + 1) o m
-pushed_queue d o m s a a2 p old ticket before is capacity room =
+pub pushed_queue : (l d o m : ℕ) (s a ts a2 ts2 : Row) (p t : Pair) → IsQueue s a ts l d o m → p.id ≡ d → t.id ≡ d → p.key ≡ o → l ≤ t.key → a2.pairs ≡ a.pairs ++ p ∷ [] → ts2.pairs ≡ ts.pairs ++ t ∷ [] → a2.capacity ≡ a.capacity → ts2.capacity ≡ ts.capacity → length (s.pairs ++ a.pairs) + 1 ≤ min (min s.capacity a.capacity) ts.capacity → IsQueue s a2 ts2 t.key (d + 1) o m
+pushed_queue l d o m s a ts a2 ts2 p t old ticket timed before later is is2 capacity capacity2 room =
     let all : List Pair = s.pairs ++ a.pairs in
     let grown : s.pairs ++ a2.pairs ≡ all ++ p ∷ [] = ap (λ xs. s.pairs ++ xs) is ∙ sym (append_assoc s.pairs a.pairs (p ∷ [])) in
     let long : length (s.pairs ++ a2.pairs) ≡ length all + 1 = ap (length {A = Pair}) grown ∙ length-append all (p ∷ []) in
@@ -196,58 +316,68 @@ pushed_queue d o m s a a2 p old ticket before is capacity room =
       ascending = subst IsAscending (sym grown) (ascending_push all p old.ascending (subst (λ (n : ℕ). IdsBelow n all) (sym ticket) old.drawn_before));
       drawn_before = subst (IdsBelow (d + 1)) (sym grown) (all_push (λ q. q.id < d + 1) all p (below_next d all old.drawn_before) (omega (arith, ticket)));
       fair = subst (AreFair o m) (sym grown) (fair_push o m all p before old.fair);
-      fit = omega (arith, long, room, capacity);
+      timed = subst (λ xs. AreTimed t.key xs ts2.pairs) (sym grown) (subst (AreTimed t.key (all ++ p ∷ [])) (sym is2) (timed_push l all ts.pairs p t (timed ∙ sym ticket) later old.timed));
+      fit = omega (arith, long, room, capacity, capacity2);
     }
 
-pub raised_queue : (d o m : ℕ) (s a : Row) → IsQueue s a d o m → can_pass o m (map (waiter_of o) (s.pairs ++ a.pairs)) ≡ true → IsQueue s a d (o + 1) m
-raised_queue d o m s a old may = record {
+pub raised_queue : (l d o m : ℕ) (s a ts : Row) → IsQueue s a ts l d o m → can_pass o m (map (waiter_of o ts.pairs) (s.pairs ++ a.pairs)) ≡ true → IsQueue s a ts l d (o + 1) m
+raised_queue l d o m s a ts old may = record {
   ascending = old.ascending;
   drawn_before = old.drawn_before;
-  fair = raised o m (s.pairs ++ a.pairs) may old.fair;
+  fair = raised o m ts.pairs (s.pairs ++ a.pairs) may old.fair;
+  timed = old.timed;
   fit = old.fit;
 }
 
 -- another bound
-pub limited_queue : (d o m n : ℕ) (s a : Row) → IsQueue s a d o m → most_overtaken (map (waiter_of o) (s.pairs ++ a.pairs)) ≤ n → IsQueue s a d o n
-limited_queue d o m n s a old within = record {
+pub limited_queue : (l d o m n : ℕ) (s a ts : Row) → IsQueue s a ts l d o m → most_overtaken (map (waiter_of o ts.pairs) (s.pairs ++ a.pairs)) ≤ n → IsQueue s a ts l d o n
+limited_queue l d o m n s a ts old within = record {
   ascending = old.ascending;
   drawn_before = old.drawn_before;
-  fair = limited o m n (s.pairs ++ a.pairs) within old.fair;
+  fair = limited o m n ts.pairs (s.pairs ++ a.pairs) within old.fair;
+  timed = old.timed;
   fit = old.fit;
 }
 
 -- the oldest ticket was overtaken most often
-pub most_of_none : (o : ℕ) (ps : List Pair) → first_of ps ≡ None → most_overtaken (map (waiter_of o) ps) ≡ 0
-most_of_none o [] none = refl
-most_of_none o (p ∷ ps) none = absurd (cc)
+pub most_of_none : (o : ℕ) (ts ps : List Pair) → first_of ps ≡ None → most_overtaken (map (waiter_of o ts) ps) ≡ 0
+most_of_none o ts [] none = refl
+most_of_none o ts (p ∷ ps) none = absurd (cc)
 
-pub most_of_first : (o : ℕ) (ps : List Pair) (first : Pair) → first_of ps ≡ Some first → most_overtaken (map (waiter_of o) ps) ≡ o - first.key
-most_of_first o [] first is = absurd (cc)
-most_of_first o (p ∷ ps) first is = let same : p ≡ first = cc in ap (λ q. o - q.key) same
+pub most_of_first : (o : ℕ) (ts ps : List Pair) (first : Pair) → first_of ps ≡ Some first → most_overtaken (map (waiter_of o ts) ps) ≡ o - first.key
+most_of_first o ts [] first is = absurd (cc)
+most_of_first o ts (p ∷ ps) first is = let same : p ≡ first = cc in ap (λ q. o - q.key) same
 
--- where no more are available than tickets wait, a newcomer may look only as it may overtake the first
-pub may_pass : (available : ℕ) (q : Queue) → may_lend available q ≡ true → available ≤ length q.waiting → can_pass q.overtakes q.most q.waiting ≡ true
-may_pass available q may few = second (nat_lt (length q.waiting) available) (can_pass q.overtakes q.most q.waiting) may (let more : nat_lt (length q.waiting) available ≡ false = grind (arith, nat_tests) in more)
+-- where it counts, a newcomer may look only as it may overtake the first
+pub may_pass : (available at : ℕ) (q : Queue) → may_lend available at q ≡ true → counts_overtake available at q ≡ true → can_pass q.overtakes q.most q.waiting ≡ true
+may_pass available at q may counts = second (counts_overtake available at q) (can_pass q.overtakes q.most q.waiting) may counts
   where
-    second : (a b : Bool) → (a || b) ≡ true → a ≡ false → b ≡ true
-    second true b some none = absurd (cc)
-    second false b some none = some
-
-pub lent_waiters : (available : ℕ) (q : Queue) (ws : List Waiter) → ws ≡ map overtaken_once q.waiting → 0 < length q.waiting → available ≤ length q.waiting → ws ≡ (if takes_from_waiters available q then map overtaken_once q.waiting else q.waiting)
-lent_waiters available q ws is some few =
-    let takes : takes_from_waiters available q ≡ true = grind (arith, nat_tests) in
-    is ∙ ap (λ b. if b then map overtaken_once q.waiting else q.waiting) (sym takes)
+    second : (a b : Bool) → (not a || b) ≡ true → a ≡ true → b ≡ true
+    second true b may counts = may
+    second false b may counts = absurd (cc counts)
 
 pub left_fewer : (t : ℕ) (ps qs rs ss : List Pair) → rs ≡ without_id t ps → ss ≡ without_id t qs → length (rs ++ ss) ≤ length (ps ++ qs)
 left_fewer t ps qs rs ss r s =
     let test : Pair → Bool = λ p. not (eqb t p.id) in
     omega (arith, length-append rs ss, length-append ps qs, fewer test ps, fewer test qs, ap (length {A = Pair}) r, ap (length {A = Pair}) s)
 
--- both queues have memory for so many more
-pub reserved : {A E : Type 0} (r : Result A E) (count all o : ℕ) (s a s2 a2 : Row) → all ≡ length (map (waiter_of o) (s.pairs ++ a.pairs)) + count → s2.pairs ≡ s.pairs → a2.pairs ≡ a.pairs → all ≤ s2.capacity → OnOk r (all ≤ a2.capacity) → OnOk r (count ≤ min s2.capacity a2.capacity - length (s2.pairs ++ a2.pairs))
-reserved (Ok x) count all o s a s2 a2 is s_same a_same s_room a_room =
+-- all queues have memory for so many more
+pub reserved : {A E : Type 0} (r : Result A E) (count all o : ℕ) (s a ts s2 a2 ts2 : Row) → all ≡ length (map (waiter_of o ts.pairs) (s.pairs ++ a.pairs)) + count → s2.pairs ≡ s.pairs → a2.pairs ≡ a.pairs → all ≤ s2.capacity → all ≤ a2.capacity → OnOk r (all ≤ ts2.capacity) → OnOk r (count ≤ min (min s2.capacity a2.capacity) ts2.capacity - length (s2.pairs ++ a2.pairs))
+reserved (Ok x) count all o s a ts s2 a2 ts2 is s_same a_same s_room a_room t_room =
     let long : length (s2.pairs ++ a2.pairs) ≡ length (s.pairs ++ a.pairs) =
     ap (λ ps. length (ps ++ a2.pairs)) s_same ∙ ap (λ qs. length (s.pairs ++ qs)) a_same
     in
-    omega (arith, is, long, length-map (s.pairs ++ a.pairs) (waiter_of o), s_room, a_room)
-reserved (Err e) count all o s a s2 a2 is s_same a_same s_room a_room = tt
+    omega (arith, is, long, length-map (s.pairs ++ a.pairs) (waiter_of o ts.pairs), s_room, a_room, t_room)
+reserved (Err e) count all o s a ts s2 a2 ts2 is s_same a_same s_room a_room t_room = tt
+
+-- ---- the law of the time
+is_long : (m n : ℕ) → m ≤ n → nat_le m n ≡ true
+is_long m n within = grind (arith, nat_tests)
+
+older_due : (m at s : ℕ) (ws : List Waiter) → AllByRecursion (λ w. s ≤ w.since) ws → AllByRecursion (λ w. m ≤ at - w.since → nat_le m (at - s) ≡ true) ws
+older_due m at s [] later = tt
+older_due m at s (w ∷ ws) later = ((λ waited. is_long m (at - s) (omega (arith, waited, later.0))), older_due m at s ws later.1)
+
+pub counts_once_due : CountsOnceDue
+counts_once_due m at [] up = tt
+counts_once_due m at (w ∷ ws) up = ((λ waited. is_long m (at - w.since) waited), older_due m at w.since ws up.1)

@@ -20,6 +20,7 @@ pub use action::{Action, End, Event, StepFailure};
 pub use kind::Kind;
 pub use laws::{
     calls_given_up_end_soon, numbers_are_of_one_call, only_destroyed_objects_are_freed,
+    overtakes_count_once_due,
 };
 pub use operation::{Operation, OperationWords};
 pub use plan::Plan;

@@ -9,7 +9,7 @@ use Rattle.pool_journal.specs.declared.input.Input.TheVariants as inputs
 use Rattle.pool_calls.specs.Rules as rules
 use Rattle.pool_calls.specs.Operations.{is_waiting, step_at}
 use Rattle.pool_calls.specs.Turns.{Turn}
-use Rattle.pool_calls.specs.Waiting.{Queue, Waiter, can_pass, is_in, is_limited, may_lend, newest, takes_from_waiters, without}
+use Rattle.pool_calls.specs.Waiting.{Queue, Waiter, can_pass, counts_overtake, is_due, is_in, is_limited, may_lend, newest, without}
 use Rattle.pool_calls.specs.declared.kind.Kind.{Kind}
 use Rattle.pool_calls.specs.declared.stage.Place.{Place}
 use Rattle.pool_calls.specs.declared.stage.Place.TheVariants as places
@@ -46,18 +46,18 @@ pub others_same : (t u : Option ℕ) (ws vs : List Waiter) → u ≡ t → vs �
 others_same t u ws vs ticket waiting = ap (λ x. others x vs) ticket ∙ ap (others t) waiting
 
 -- a ticket that was drawn is no other's
-without_drawn : (d : ℕ) (ws : List Waiter) → is_in d ws ≡ false → without d (ws ++ newest d ∷ []) ≡ ws
-without_drawn d [] fresh = ap (λ (b : Bool). cond (not b) (newest d ∷ []) []) (eq-eqb d d refl)
-without_drawn d (w ∷ ws) fresh = by_test (eqb d w.ticket) fresh (without_drawn d ws)
+without_drawn : (d n : ℕ) (ws : List Waiter) → is_in d ws ≡ false → without d (ws ++ newest d n ∷ []) ≡ ws
+without_drawn d n [] fresh = ap (λ (b : Bool). cond (not b) (newest d n ∷ []) []) (eq-eqb d d refl)
+without_drawn d n (w ∷ ws) fresh = by_test (eqb d w.ticket) fresh (without_drawn d n ws)
   where
-    by_test : (b : Bool) → (b || is_in d ws) ≡ false → (is_in d ws ≡ false → without d (ws ++ newest d ∷ []) ≡ ws)
-        → cond (not b) (w ∷ without d (ws ++ newest d ∷ [])) (without d (ws ++ newest d ∷ [])) ≡ w ∷ ws
+    by_test : (b : Bool) → (b || is_in d ws) ≡ false → (is_in d ws ≡ false → without d (ws ++ newest d n ∷ []) ≡ ws)
+        → cond (not b) (w ∷ without d (ws ++ newest d n ∷ [])) (without d (ws ++ newest d n ∷ [])) ≡ w ∷ ws
     by_test true is rest = absurd (cc is)
     by_test false is rest = ap (λ vs. w ∷ vs) (rest is)
 
-pub others_drawn : (d : ℕ) (t u : Option ℕ) (ws vs : List Waiter) → t ≡ None → u ≡ Some d → vs ≡ ws ++ newest d ∷ [] → is_in d ws ≡ false → others u vs ≡ others t ws
-others_drawn d t u ws vs none some drawn fresh =
-    ap (λ x. others x vs) some ∙ ap (without d) drawn ∙ without_drawn d ws fresh ∙ sym (ap (λ x. others x ws) none)
+pub others_drawn : (d n : ℕ) (t u : Option ℕ) (ws vs : List Waiter) → t ≡ None → u ≡ Some d → vs ≡ ws ++ newest d n ∷ [] → is_in d ws ≡ false → others u vs ≡ others t ws
+others_drawn d n t u ws vs none some drawn fresh =
+    ap (λ x. others x vs) some ∙ ap (without d) drawn ∙ without_drawn d n ws fresh ∙ sym (ap (λ x. others x ws) none)
 
 -- one that has a ticket overtakes nobody
 pub others_passed : (ticket : Option ℕ) (served there : Bool) (ws : List Waiter) → others ticket (passed (not (is_some ticket || served) && there) ws) ≡ passed (not (is_some ticket || served) && there) (others ticket ws)
@@ -88,12 +88,12 @@ pub draws_none : (t u : Option ℕ) (A : Type 0) → u ≡ t → is_some u ≡ t
 draws_none t u A same has none = never (is_some u) A (ap is_some (same ∙ none)) has
 
 -- it has drawn a ticket
-pub rests_drawn : (d : ℕ) (old new : DrivenModel) (before after : Call) → new.core ≡ old.core → new.drops ≡ old.drops → after.was_served ≡ before.was_served → is_waiting after.operation ≡ true → before.ticket ≡ None → after.ticket ≡ Some d → new.queue.waiting ≡ old.queue.waiting ++ newest d ∷ [] → is_in d old.queue.waiting ≡ false → Rests old new before after
-rests_drawn d old new before after core drops served waits none some drawn fresh = record {
+pub rests_drawn : (d n : ℕ) (old new : DrivenModel) (before after : Call) → new.core ≡ old.core → new.drops ≡ old.drops → after.was_served ≡ before.was_served → is_waiting after.operation ≡ true → before.ticket ≡ None → after.ticket ≡ Some d → new.queue.waiting ≡ old.queue.waiting ++ newest d n ∷ [] → is_in d old.queue.waiting ≡ false → Rests old new before after
+rests_drawn d n old new before after core drops served waits none some drawn fresh = record {
   core = forgets_none old.drops old.core new.core core;
   drops = drops;
   served = served;
-  others = others_drawn d before.ticket after.ticket old.queue.waiting new.queue.waiting none some drawn fresh;
+  others = others_drawn d n before.ticket after.ticket old.queue.waiting new.queue.waiting none some drawn fresh;
   draws = λ has had_none. waits;
   waits = λ has waited. waits;
 }
@@ -142,10 +142,10 @@ passes_other caller at input answer out old new before after other asked takes d
       drops = drops;
       served = served ∙ ap (λ b. b || before.was_served) (sym none);
       draws = λ has had_none. draws_none before.ticket after.ticket (is_waiting after.operation ≡ true) ticket has had_none;
-      may = λ found newcomer. never (finds input answer) (may_lend (available_in old.core) old.queue ≡ true) none found;
+      may = λ found newcomer. never (finds input answer) (may_lend (available_in old.core) at old.queue ≡ true) none found;
       others =
           others_same before.ticket after.ticket old.queue.waiting new.queue.waiting ticket waiting
-          ∙ ap (λ b. passed (b && is_newcomer before && takes_from_waiters (available_in old.core) old.queue) (others before.ticket old.queue.waiting)) (sym none);
+          ∙ ap (λ b. passed (b && is_newcomer before && counts_overtake (available_in old.core) at old.queue) (others before.ticket old.queue.waiting)) (sym none);
     })
 
 -- ---- what is there for a newcomer
@@ -153,56 +153,46 @@ none_of : (ws : List Waiter) → length ws ≡ 0 → ws ≡ []
 none_of [] none = refl
 none_of (w ∷ ws) none = absurd (cc none)
 
-or_true : (b : Bool) → (b || true) ≡ true
-or_true true = refl
-or_true false = refl
-
 -- while nobody waits a newcomer may come, and overtakes nobody
-pub may_alone : (available : ℕ) (q : Queue) → length q.waiting ≡ 0 → may_lend available q ≡ true
-may_alone available q none =
-    ap (λ ws. nat_lt (length q.waiting) available || can_pass q.overtakes q.most ws) (none_of q.waiting none) ∙ or_true (nat_lt (length q.waiting) available)
+counts_alone : (available at : ℕ) (q : Queue) → length q.waiting ≡ 0 → counts_overtake available at q ≡ false
+counts_alone available at q none = ap (λ ws. is_due q.millis at ws && nat_le available (length q.waiting)) (none_of q.waiting none)
 
-takes_alone : (available : ℕ) (q : Queue) → length q.waiting ≡ 0 → takes_from_waiters available q ≡ false
-takes_alone available q none = ap (λ n. nat_lt 0 n && nat_le available n) none
+may_alone : (available at : ℕ) (q : Queue) → length q.waiting ≡ 0 → may_lend available at q ≡ true
+may_alone available at q none = ap (λ b. not b || can_pass q.overtakes q.most q.waiting) (counts_alone available at q none)
 
-pub may_come_alone : (available : ℕ) (d : DrivenModel) → length d.queue.waiting ≡ 0 → may_come_in available d ≡ true
-may_come_alone available d none =
-    by_test d.holds_back (is_limited d.queue) (nat_lt 0 (length d.queue.waiting)) (nat_le available (length d.queue.waiting)) (ap (nat_lt 0) none) (may_alone available d.queue none)
+may_come_alone : (available at : ℕ) (d : DrivenModel) → length d.queue.waiting ≡ 0 → may_come_in available at d ≡ true
+may_come_alone available at d none = by_test d.holds_back (is_limited d.queue) (counts_overtake available at d.queue) (counts_alone available at d.queue none) (may_alone available at d.queue none)
   where
-    by_test : (held limited waits few : Bool) → waits ≡ false → may_lend available d.queue ≡ true → (if held && limited && waits && few then false else may_lend available d.queue) ≡ true
-    by_test held limited true few is may = absurd (cc is)
-    by_test true true false few is may = may
-    by_test true false false few is may = may
-    by_test false limited false few is may = may
+    by_test : (held limited counts : Bool) → counts ≡ false → may_lend available at d.queue ≡ true → (if held && limited && counts then false else may_lend available at d.queue) ≡ true
+    by_test held limited true is may = absurd (cc is)
+    by_test true true false is may = may
+    by_test true false false is may = may
+    by_test false limited false is may = may
 
 may_of : (held may : Bool) → (if held then false else may) ≡ true → may ≡ true
 may_of true may is = absurd (cc is)
 may_of false may is = is
 
-pub may_there : (available : ℕ) (d : DrivenModel) → IsAvailable d available → may_come_in available d ≡ true → may_lend (available_in d.core) d.queue ≡ true
-may_there available d (inl none) may = may_alone (available_in d.core) d.queue none
-may_there available d (inr is) may = ap (λ n. may_lend n d.queue) (sym is) ∙ may_of _ (may_lend available d.queue) may
+pub may_there : (available at : ℕ) (d : DrivenModel) → IsAvailable d available → may_come_in available at d ≡ true → may_lend (available_in d.core) at d.queue ≡ true
+may_there available at d (inl none) may = may_alone (available_in d.core) at d.queue none
+may_there available at d (inr is) may = ap (λ n. may_lend n at d.queue) (sym is) ∙ may_of _ (may_lend available at d.queue) may
 
-pub may_come_there : (available : ℕ) (d : DrivenModel) → IsAvailable d available → may_come_in available d ≡ true → may_come_in (available_in d.core) d ≡ true
-may_come_there available d (inl none) may = may_come_alone (available_in d.core) d none
-may_come_there available d (inr is) may = ap (λ n. may_come_in n d) (sym is) ∙ may
-
-pub takes_there : (available : ℕ) (d : DrivenModel) → IsAvailable d available → takes_from_waiters available d.queue ≡ takes_from_waiters (available_in d.core) d.queue
-takes_there available d (inl none) = takes_alone available d.queue none ∙ sym (takes_alone (available_in d.core) d.queue none)
-takes_there available d (inr is) = ap (λ n. takes_from_waiters n d.queue) is
+pub counts_there : (available at : ℕ) (d : DrivenModel) → IsAvailable d available → counts_overtake available at d.queue ≡ counts_overtake (available_in d.core) at d.queue
+counts_there available at d (inl none) = counts_alone available at d.queue none ∙ sym (counts_alone (available_in d.core) at d.queue none)
+counts_there available at d (inr is) = ap (λ n. counts_overtake n at d.queue) is
 
 -- ---- a borrow that asks
 pub newcomer_of : (c : Call) → c.ticket ≡ None → c.was_served ≡ false → is_newcomer c ≡ true
 newcomer_of c none unserved = ap (λ t. not (is_some t || c.was_served)) none ∙ ap not unserved
 
-pub may_lend_of : (available : ℕ) (d : DrivenModel) → may_come_in available d ≡ true → may_lend available d.queue ≡ true
-may_lend_of available d may = may_of _ (may_lend available d.queue) may
+pub may_lend_of : (available at : ℕ) (d : DrivenModel) → may_come_in available at d ≡ true → may_lend available at d.queue ≡ true
+may_lend_of available at d may = may_of _ (may_lend available at d.queue) may
 
 pub may_as : (early may : Bool) → true ≡ (early || may) → not early ≡ true → may ≡ true
 may_as true may is newcomer = absurd (cc newcomer)
 may_as false may is newcomer = sym is
 
-pub passes_asked : (caller at began available : ℕ) (answer : Answer) (out : Option ℕ) (old mid new : DrivenModel) (before step after : Call) → step_at before.operation ≡ Some (inputs.Borrow began) → IsAvailable old available → (is_newcomer before ≡ true → may_come_in available old ≡ true) → Takes caller at (inputs.Borrow began) (handed (inputs.Borrow began) before.token) old.drops old.core mid.core answer out → mid.drops ≡ old.drops → mid.queue ≡ old.queue → step.ticket ≡ before.ticket → step.was_served ≡ before.was_served → new.core ≡ mid.core → new.drops ≡ mid.drops → after.was_served ≡ (is_found answer || step.was_served) → (is_some after.ticket ≡ true → step.ticket ≡ None → is_waiting after.operation ≡ true) → others after.ticket new.queue.waiting ≡ passed (is_found answer && is_newcomer step && takes_from_waiters available mid.queue) (others step.ticket mid.queue.waiting) → CountsOvertakes caller at old new before after
+pub passes_asked : (caller at began available : ℕ) (answer : Answer) (out : Option ℕ) (old mid new : DrivenModel) (before step after : Call) → step_at before.operation ≡ Some (inputs.Borrow began) → IsAvailable old available → (is_newcomer before ≡ true → may_come_in available at old ≡ true) → Takes caller at (inputs.Borrow began) (handed (inputs.Borrow began) before.token) old.drops old.core mid.core answer out → mid.drops ≡ old.drops → mid.queue ≡ old.queue → step.ticket ≡ before.ticket → step.was_served ≡ before.was_served → new.core ≡ mid.core → new.drops ≡ mid.drops → after.was_served ≡ (is_found answer || step.was_served) → (is_some after.ticket ≡ true → step.ticket ≡ None → is_waiting after.operation ≡ true) → others after.ticket new.queue.waiting ≡ passed (is_found answer && is_newcomer step && counts_overtake available at mid.queue) (others step.ticket mid.queue.waiting) → CountsOvertakes caller at old new before after
 passes_asked caller at began available answer out old mid new before step after asked there may takes drops queue ticket turn core kept served draws passes =
     let input : Input = inputs.Borrow began in
     let C : _ → Type 0 = λ m. Takes caller at input (handed input before.token) old.drops old.core m answer out in
@@ -213,13 +203,13 @@ passes_asked caller at began available answer out old mid new before step after 
       drops = kept ∙ drops;
       served = served ∙ ap (λ s. is_found answer || s) turn;
       draws = λ has none. draws has (ticket ∙ none);
-      may = λ found newcomer. may_there available old there (may newcomer);
+      may = λ found newcomer. may_there available at old there (may newcomer);
       others =
           passes
-          ∙ ap (λ t. passed (is_found answer && not (is_some t || step.was_served) && takes_from_waiters available mid.queue) (others t mid.queue.waiting)) ticket
-          ∙ ap (λ s. passed (is_found answer && not (is_some before.ticket || s) && takes_from_waiters available mid.queue) (others before.ticket mid.queue.waiting)) turn
-          ∙ ap (λ q. passed (is_found answer && is_newcomer before && takes_from_waiters available q) (others before.ticket q.waiting)) queue
-          ∙ ap (λ b. passed (is_found answer && is_newcomer before && b) (others before.ticket old.queue.waiting)) (takes_there available old there);
+          ∙ ap (λ t. passed (is_found answer && not (is_some t || step.was_served) && counts_overtake available at mid.queue) (others t mid.queue.waiting)) ticket
+          ∙ ap (λ s. passed (is_found answer && not (is_some before.ticket || s) && counts_overtake available at mid.queue) (others before.ticket mid.queue.waiting)) turn
+          ∙ ap (λ q. passed (is_found answer && is_newcomer before && counts_overtake available at q) (others before.ticket q.waiting)) queue
+          ∙ ap (λ b. passed (is_found answer && is_newcomer before && b) (others before.ticket old.queue.waiting)) (counts_there available at old there);
     })
 
 -- what a borrow does before it asks

@@ -3,7 +3,7 @@ use Rattle.std.proofs.Common.{◌≡◌, ℕ, eqb, ◌&&◌, ◌||◌, not, cond
 use Rattle.std.specs.Prelude.{map}
 use Rattle.std.proofs.lemmas.Bool.{eqb-true, eq-eqb, both_ways}
 use Rattle.std.proofs.lemmas.List.Folds.{list_any-append}
-use Rattle.pool_calls.specs.Waiting.{Queue, Waiter, is_in, without, newest, overtaken_once, takes_from_waiters}
+use Rattle.pool_calls.specs.Waiting.{Queue, Waiter, counts_overtake, is_in, without, newest, overtaken_once}
 use Rattle.pool_driver.specs.Queueing.{HoldsTicket, Queues, is_ticket}
 
 -- ---- which tickets are in a list
@@ -32,9 +32,9 @@ or_turned true false = refl
 or_turned false true = refl
 or_turned false false = refl
 
-in_pushed : (t d : ℕ) (ws : List Waiter) → is_in t (ws ++ newest d ∷ []) ≡ (eqb t d || is_in t ws)
-in_pushed t d ws =
-    list_any-append (λ w. eqb t w.ticket) ws (newest d ∷ []) ∙ ap (λ b. is_in t ws || b) (or_false (eqb t d)) ∙ or_turned (is_in t ws) (eqb t d)
+in_pushed : (t d n : ℕ) (ws : List Waiter) → is_in t (ws ++ newest d n ∷ []) ≡ (eqb t d || is_in t ws)
+in_pushed t d n ws =
+    list_any-append (λ w. eqb t w.ticket) ws (newest d n ∷ []) ∙ ap (λ b. is_in t ws || b) (or_false (eqb t d)) ∙ or_turned (is_in t ws) (eqb t d)
 
 in_overtaken : (t : ℕ) (ws : List Waiter) → is_in t (map overtaken_once ws) ≡ is_in t ws
 in_overtaken t [] = refl
@@ -62,8 +62,8 @@ queues_kept ticket old new most same = record {
 pub queues_same : (ticket : Option ℕ) (old new : Queue) → new.most ≡ old.most → new.waiting ≡ old.waiting → Queues ticket ticket old new
 queues_same ticket old new most same = queues_kept ticket old new most (λ t. ap (is_in t) same)
 
-pub queues_lent : (available : ℕ) (ticket : Option ℕ) (old new : Queue) → new.most ≡ old.most → new.waiting ≡ (if takes_from_waiters available old then map overtaken_once old.waiting else old.waiting) → Queues ticket ticket old new
-queues_lent available ticket old new most is = by_test (takes_from_waiters available old) is
+pub queues_lent : (available at : ℕ) (ticket : Option ℕ) (old new : Queue) → new.most ≡ old.most → new.waiting ≡ (if counts_overtake available at old then map overtaken_once old.waiting else old.waiting) → Queues ticket ticket old new
+queues_lent available at ticket old new most is = by_test (counts_overtake available at old) is
   where
     by_test : (b : Bool) → new.waiting ≡ (if b then map overtaken_once old.waiting else old.waiting) → Queues ticket ticket old new
     by_test true is = queues_kept ticket old new most (λ t. ap (is_in t) is ∙ in_overtaken t old.waiting)
@@ -76,21 +76,21 @@ queues_left s old new most is = record {
   fresh = λ holds t before after. none_fresh false (is_in t old.waiting ≡ false) refl after;
 }
 
-pub queues_drawn : (d : ℕ) (old new : Queue) → new.most ≡ old.most → new.waiting ≡ old.waiting ++ newest d ∷ [] → is_in d old.waiting ≡ false → Queues None (Some d) old new
-queues_drawn d old new most is fresh = record {
+pub queues_drawn : (d n : ℕ) (old new : Queue) → new.most ≡ old.most → new.waiting ≡ old.waiting ++ newest d n ∷ [] → is_in d old.waiting ≡ false → Queues None (Some d) old new
+queues_drawn d n old new most is fresh = record {
   most = most;
-  waits = λ holds t. ap (is_in t) is ∙ in_pushed t d old.waiting;
+  waits = λ holds t. ap (is_in t) is ∙ in_pushed t d n old.waiting;
   fresh = λ holds t before after. ap (λ n. is_in n old.waiting) (eqb-true t d after) ∙ fresh;
 }
 
 pub queues_leave : (ticket : Option ℕ) (s : ℕ) (old new : Queue) → ticket ≡ Some s → new.most ≡ old.most → new.waiting ≡ without s old.waiting → Queues ticket None old new
 queues_leave ticket s old new is most left = let P : Option ℕ → Type 0 = λ t. Queues t None old new in subst P (sym is) (queues_left s old new most left)
 
-pub queues_draw : (ticket after : Option ℕ) (d : ℕ) (old new : Queue) → ticket ≡ None → after ≡ Some d → new.most ≡ old.most → new.waiting ≡ old.waiting ++ newest d ∷ [] → is_in d old.waiting ≡ false → Queues ticket after old new
-queues_draw ticket after d old new none some most drawn fresh =
+pub queues_draw : (ticket after : Option ℕ) (d n : ℕ) (old new : Queue) → ticket ≡ None → after ≡ Some d → new.most ≡ old.most → new.waiting ≡ old.waiting ++ newest d n ∷ [] → is_in d old.waiting ≡ false → Queues ticket after old new
+queues_draw ticket after d n old new none some most drawn fresh =
     let P : Option ℕ → Type 0 = λ t. Queues t after old new in
     let Q : Option ℕ → Type 0 = λ t. Queues None t old new in
-    subst P (sym none) (subst Q (sym some) (queues_drawn d old new most drawn fresh))
+    subst P (sym none) (subst Q (sym some) (queues_drawn d n old new most drawn fresh))
 
 -- ---- one change after the other
 true_or : (b c : Bool) → b ≡ true → (b || c) ≡ true

@@ -22,7 +22,7 @@ use Rattle.pool_core.specs.Reconfigured.{reconfigured}
 use Rattle.pool_core.specs.Reply.{reply_from, takeable_from}
 use Rattle.pool_calls.specs.Operations.{HasCome, Follows, IsRight, Proceeds, began_of, fits, is_making, is_over, is_waiting, lacks_room, step_at}
 use Rattle.pool_calls.specs.Turns.{Turn, asks_room, is_done, step_of}
-use Rattle.pool_calls.specs.Waiting.{Queue, Waiter, is_in, is_limited, may_lend, overtaken_once, signalled_of, takes_from_waiters}
+use Rattle.pool_calls.specs.Waiting.{Queue, Waiter, counts_overtake, is_in, is_limited, may_lend, overtaken_once, signalled_of}
 use Rattle.pool_calls.specs.declared.action.Action.{Action}
 use Rattle.pool_calls.specs.declared.action.Event.TheVariants as events
 use Rattle.pool_calls.specs.declared.action.StepFailure.{StepFailure}
@@ -68,6 +68,8 @@ pub record Opened (s : Settings) (o : Options) (d : DrivenModel) : Type 0 where
   pub places : d.core.places ≡ []
   pub waiting : d.queue.waiting ≡ []
   pub signalled : d.queue.signalled ≡ 0
+  pub latest : d.queue.latest ≡ 0
+  pub overtake_millis : d.queue.millis ≡ o.overtake_millis
   pub most_overtakes : d.queue.most ≡ o.max_overtakes
   pub plan : d.plan ≡ plan_of s o.hooks
   pub drops : d.drops ≡ o.drops_journal
@@ -245,12 +247,12 @@ abbrev pub has_waited : ℤ → ℕ → ℕ → Bool
 has_waited (pos most) longer waited = nat_le (most + longer) waited
 has_waited (negsuc n) longer waited = false
 
--- A borrow that comes later may ask: not for what those that wait can take, once one of them was woken and found nothing, if there
--- is a limit to overtakes.
-abbrev pub may_come_in : ℕ → DrivenModel → Bool
-may_come_in available d =
-    if d.holds_back && is_limited d.queue && nat_lt 0 (length d.queue.waiting) && nat_le available (length d.queue.waiting) then false
-    else may_lend available d.queue
+-- A borrow that comes later may ask at this time, unless it counts that it takes what those that wait can have, and it may not overtake
+-- them, or one of them was woken and found nothing and there is a limit to overtakes.
+abbrev pub may_come_in : ℕ → ℕ → DrivenModel → Bool
+may_come_in available at d =
+    if d.holds_back && is_limited d.queue && counts_overtake available at d.queue then false
+    else may_lend available at d.queue
 
 -- a borrow times out if its time is over, and sleeps on if it is not
 abbrev pub sleeps_until : Bool → Waking

@@ -7,7 +7,7 @@ use Rattle.pool_journal.specs.declared.input.Input.{Input}
 use Rattle.pool_journal.specs.declared.input.Input.TheVariants as inputs
 use Rattle.pool_calls.specs.Operations.{is_waiting, step_at}
 use Rattle.pool_calls.specs.Turns.{Turn}
-use Rattle.pool_calls.specs.Waiting.{Waiter, may_lend, takes_from_waiters, without}
+use Rattle.pool_calls.specs.Waiting.{Waiter, counts_overtake, may_lend, without}
 use Rattle.pool_driver.specs.Driving.{DrivenModel, Forgets, Takes, available_in, handed, passed}
 use Rattle.pool_driver.specs.declared.call.Call.{Call}
 
@@ -51,8 +51,8 @@ pub record Rests (old new : DrivenModel) (before after : Call) : Type 0 where
   pub draws : is_some after.ticket ≡ true → before.ticket ≡ None → is_waiting after.operation ≡ true
   pub waits : is_some after.ticket ≡ true → is_waiting before.operation ≡ true → is_waiting after.operation ≡ true
 
--- a call takes the step that it asks for. A newcomer finds something only if it may overtake those that wait or leaves them enough, and has
--- overtaken each of them once more if it took what they could have had. No other step overtakes anybody
+-- a call takes the step that it asks for. A newcomer finds something only if it may overtake those that wait, or leaves them enough, or none of
+-- them has waited for long enough. It has overtaken each of them once more if that counts. No other step overtakes anybody
 pub record Passes (caller at : ℕ) (turn : Turn) (old new : DrivenModel) (before after : Call) : Type 0 where
   pub asked : step_at before.operation ≡ Some turn.input
   pub out : Option ℕ
@@ -60,10 +60,10 @@ pub record Passes (caller at : ℕ) (turn : Turn) (old new : DrivenModel) (befor
   pub drops : new.drops ≡ old.drops
   pub served : after.was_served ≡ (finds turn.input turn.answer || before.was_served)
   pub draws : is_some after.ticket ≡ true → before.ticket ≡ None → is_waiting after.operation ≡ true
-  pub may : finds turn.input turn.answer ≡ true → is_newcomer before ≡ true → may_lend (available_in old.core) old.queue ≡ true
+  pub may : finds turn.input turn.answer ≡ true → is_newcomer before ≡ true → may_lend (available_in old.core) at old.queue ≡ true
   pub others :
       others after.ticket new.queue.waiting
-      ≡ passed (finds turn.input turn.answer && is_newcomer before && takes_from_waiters (available_in old.core) old.queue) (others before.ticket old.queue.waiting)
+      ≡ passed (finds turn.input turn.answer && is_newcomer before && counts_overtake (available_in old.core) at old.queue) (others before.ticket old.queue.waiting)
 
 -- what a call does, one thing after the other: with a step, or without one
 abbrev pub Course : ℕ → ℕ → List (Option Turn) → DrivenModel → DrivenModel → Call → Call → Type 0

@@ -49,7 +49,7 @@ impl DrivenPool {
         requires due { answers.Take id ≡ reply_from self.old.core.settings self.old.core.base
             self.old.core.journal at (inputs.Borrow began) }
         requires available { IsAvailable self.old available }
-        requires may { is_newcomer call.old ≡ true → may_come_in available self.old ≡ true }
+        requires may { is_newcomer call.old ≡ true → may_come_in available at self.old ≡ true }
         ensures stepped { result ≡ true
             → Stepped (inputs.Borrow began) caller at self.old self.new call.old call.new }
         ensures unchanged { result ≡ false → (self.new ≡ self.old) × (call.new ≡ call.old) }
@@ -60,7 +60,7 @@ impl DrivenPool {
         let Ok(token) = self.core.lend_idle(caller, at, began, id) else {
             return false;
         };
-        self.note_found(call, available);
+        self.note_found(call, available, at);
         call.operation = lent;
         call.token = token;
         true
@@ -81,7 +81,7 @@ impl DrivenPool {
         requires due { answers.Take id ≡ reply_from self.old.core.settings self.old.core.base
             self.old.core.journal at (inputs.Borrow began) }
         requires available { IsAvailable self.old available }
-        requires may { is_newcomer call.old ≡ true → may_come_in available self.old ≡ true }
+        requires may { is_newcomer call.old ≡ true → may_come_in available at self.old ≡ true }
         ensures stepped { result ≡ true
             → Stepped (inputs.Borrow began) caller at self.old self.new call.old call.new }
         ensures unchanged { result ≡ false → (self.new ≡ self.old) × (call.new ≡ call.old) }
@@ -96,7 +96,7 @@ impl DrivenPool {
         else {
             return false;
         };
-        self.note_found(call, available);
+        self.note_found(call, available, at);
         call.operation = taken;
         call.token = out.unwrap_or(call.token);
         true
@@ -104,16 +104,16 @@ impl DrivenPool {
 
     // The idle object that a borrow takes, if one is there and it may have it, with the number of available objects and places.
     #[inline(always)]
-    fn idle_for(&mut self, call: &Call, at: u64, began: u64) -> Option<(u64, u64)>
-        ensures due { IfSome result (λ r. answers.Take r.0 ≡ reply_from self.old.core.settings
-            self.old.core.base self.old.core.journal at (inputs.Borrow began)) }
-        ensures available { IfSome result (λ r. IsAvailable self.old r.1) }
+    fn idle_for(&self, call: &Call, at: u64, began: u64) -> Option<(u64, u64)>
+        ensures due { IfSome result (λ r. answers.Take r.0 ≡ reply_from self.now.core.settings
+            self.now.core.base self.now.core.journal at (inputs.Borrow began)) }
+        ensures available { IfSome result (λ r. IsAvailable self.now r.1) }
         ensures may { IfSome result (λ r. is_newcomer call.now ≡ true
-            → may_come_in r.1 self.old ≡ true) }
-        ensures unchanged { self.new ≡ self.old }
+            → may_come_in r.1 at self.now ≡ true) }
+        ensures unchanged { self.new ≡ self.now }
     {
         let available = self.available_to_newcomer();
-        if self.is_to_forget() || !self.may_ask(call, available) {
+        if self.is_to_forget() || !self.may_ask(call, available, at) {
             return None;
         }
         match self.core.due(at, Input::Borrow { began }) {

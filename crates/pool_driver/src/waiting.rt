@@ -3,7 +3,7 @@ ghost use Rattle.std.specs.Prelude.{◌≡◌, ◌-◌, ◌&&◌, ◌||◌, IfSo
 ghost use Rattle.std.specs.Option.{is_some};
 ghost use Rattle.pool_calls.specs.Operations.{Proceeds, fits, is_waiting, lacks_room, step_at};
 ghost use Rattle.pool_calls.specs.Turns.{is_done};
-ghost use Rattle.pool_calls.specs.Waiting.{may_lend, most_overtaken, takes_from_waiters};
+ghost use Rattle.pool_calls.specs.Waiting.{may_lend, most_overtaken, counts_overtake};
 ghost use Rattle.pool_core.specs.Legal.{entry_of};
 ghost use Rattle.pool_journal.specs.Base.{closed_from};
 ghost use Rattle.pool_journal.specs.declared.input.Input.TheVariants as inputs;
@@ -246,7 +246,7 @@ impl DrivenPool {
     }
 
     // A borrow that waits, and has no ticket, draws one.
-    fn draw_ticket(&mut self, call: &mut Call)
+    fn draw_ticket(&mut self, call: &mut Call, at: u64)
         ensures accepts { Accepts reports.GoOn self.old self.new call.old call.new }
         ensures rests { Rests self.old self.new call.old call.new }
         ensures room { lacks_room call.new.operation ≡ true
@@ -259,7 +259,7 @@ impl DrivenPool {
         let Action::Wait = call.operation.action() else {
             return;
         };
-        let Ok(ticket) = self.waiters.wait() else {
+        let Ok(ticket) = self.waiters.wait(at) else {
             let _ = call.operation.tell(Event::TimeOver);
             return;
         };
@@ -268,46 +268,46 @@ impl DrivenPool {
 
     // A borrow took something. If it had no ticket, and took nothing before, it overtook those that wait.
     #[inline(always)]
-    fn count_overtake(&mut self, call: &Call, available: u64)
+    fn count_overtake(&mut self, call: &Call, available: u64, at: u64)
         requires { call.now.ticket ≡ None → call.now.was_served ≡ false
-            → may_lend available self.old.queue ≡ true }
+            → may_lend available at self.old.queue ≡ true }
         ensures rest { self.new ≡ record self.old { queue = self.new.queue } }
         ensures queue { Queues call.now.ticket call.now.ticket self.old.queue self.new.queue }
         ensures waiting { self.new.queue.waiting ≡ passed (is_newcomer call.now
-            && takes_from_waiters available self.old.queue) self.old.queue.waiting }
+            && counts_overtake available at self.old.queue) self.old.queue.waiting }
     {
         if call.ticket.is_none() && !call.was_served {
-            self.waiters.note_lent(available);
+            self.waiters.note_lent(available, at);
         }
     }
 
     /// A borrow found something, and waits no longer. It overtook those that wait if it is a newcomer.
     #[inline(always)]
-    pub(crate) fn note_found(&mut self, call: &mut Call, available: u64)
+    pub(crate) fn note_found(&mut self, call: &mut Call, available: u64, at: u64)
         requires { call.old.ticket ≡ None → call.old.was_served ≡ false
-            → may_lend available self.old.queue ≡ true }
+            → may_lend available at self.old.queue ≡ true }
         ensures accepts { Accepts reports.GoOn self.old self.new call.old call.new }
         ensures served { call.new.was_served ≡ true }
         ensures ticket { call.new.ticket ≡ None }
         ensures others { others call.new.ticket self.new.queue.waiting
-            ≡ passed (is_newcomer call.old && takes_from_waiters available self.old.queue)
+            ≡ passed (is_newcomer call.old && counts_overtake available at self.old.queue)
             (others call.old.ticket self.old.queue.waiting) }
         ensures operation { call.new.operation ≡ call.old.operation }
         ensures longer { call.new.longer ≡ call.old.longer }
     {
-        self.count_overtake(call, available);
+        self.count_overtake(call, available, at);
         call.was_served = true;
         self.leave(call);
     }
 
     // A borrow has asked: it waits, or it waits no longer. One that found something overtook those that wait.
-    fn note_answer(&mut self, call: &mut Call, answer: Answer, available: u64)
+    fn note_answer(&mut self, call: &mut Call, answer: Answer, available: u64, at: u64)
         requires { call.old.ticket ≡ None → call.old.was_served ≡ false
-            → may_lend available self.old.queue ≡ true }
+            → may_lend available at self.old.queue ≡ true }
         ensures accepts { Accepts reports.GoOn self.old self.new call.old call.new }
         ensures served { call.new.was_served ≡ (is_found answer || call.old.was_served) }
         ensures others { others call.new.ticket self.new.queue.waiting
-            ≡ passed (is_found answer && is_newcomer call.old && takes_from_waiters available
+            ≡ passed (is_found answer && is_newcomer call.old && counts_overtake available at
             self.old.queue) (others call.old.ticket self.old.queue.waiting) }
         ensures draws { is_some call.new.ticket ≡ true → call.old.ticket ≡ None
             → is_waiting call.new.operation ≡ true }
@@ -316,14 +316,14 @@ impl DrivenPool {
         ensures longer { call.new.longer ≡ call.old.longer }
     {
         match answer {
-            Answer::Wait => self.draw_ticket(call),
-            Answer::Take(_) | Answer::Make(_) => self.note_found(call, available),
+            Answer::Wait => self.draw_ticket(call, at),
+            Answer::Take(_) | Answer::Make(_) => self.note_found(call, available, at),
             _ => self.leave(call),
         }
     }
 
     // A borrow has to wait behind others: it draws a ticket.
-    fn queue_up(&mut self, call: &mut Call)
+    fn queue_up(&mut self, call: &mut Call, at: u64)
         requires { is_some (step_at call.old.operation) ≡ true }
         ensures accepts { Accepts reports.GoOn self.old self.new call.old call.new }
         ensures rests { Rests self.old self.new call.old call.new }
@@ -332,7 +332,7 @@ impl DrivenPool {
         ensures longer { call.new.longer ≡ call.old.longer }
     {
         if call.operation.tell(Event::Queued) {
-            self.draw_ticket(call);
+            self.draw_ticket(call, at);
         }
     }
 
@@ -346,42 +346,43 @@ impl DrivenPool {
         self.waiters.reserve(1).is_ok()
     }
 
-    // Whether a borrow that comes later may ask: there is more than those that wait can take, or it may overtake them.
-    // It may not once one of them was woken and found nothing, if there is a limit to overtakes.
+    // Whether a borrow that comes later may ask: there is more than those that wait can take, the oldest of them has not
+    // waited for long enough, or it may overtake them. Of those that have, it may not once one of them was woken and found
+    // nothing, if there is a limit to overtakes.
     #[inline(always)]
-    pub(crate) fn may_come(&mut self, available: u64) -> bool
-        ensures value { result ≡ may_come_in available self.old }
-        ensures kept { self.new ≡ self.old }
+    pub(crate) fn may_come(&self, available: u64, at: u64) -> bool
+        ensures { result ≡ may_come_in available at self.now }
     {
         if self.waiters.is_empty() {
             return true;
         }
-        let waiting = self.waiters.len() as u64;
-        if self.holds_back && self.waiters.is_limited() && available <= waiting {
+        if self.holds_back
+            && self.waiters.is_limited()
+            && self.waiters.counts_overtake(available, at)
+        {
             return false;
         }
-        self.waiters.may_lend(available)
+        self.waiters.may_lend(available, at)
     }
 
-    /// Lets each waiting call be overtaken at most `max_overtakes` times from now on, or as often as the oldest one was, if
-    /// that is more. Returns this bound.
-    pub fn limit_overtakes(&mut self, max_overtakes: u64) -> u64
+    /// From now on each call that has waited for `millis` milliseconds is overtaken at most `max_overtakes` times, or as often
+    /// as the oldest one was, if that is more. Returns this bound.
+    pub fn limit_overtakes(&mut self, millis: u64, max_overtakes: u64) -> u64
         ensures bound { result ≡ max max_overtakes (most_overtaken self.old.queue.waiting) }
         ensures rest { self.new ≡ record self.old {
-          queue = record self.old.queue { most = result };
+          queue = record self.old.queue { millis = millis; most = result };
         } }
     {
-        self.waiters.limit_overtakes(max_overtakes)
+        self.waiters.limit_overtakes(millis, max_overtakes)
     }
 
     /// Returns whether a borrow may ask: it waits, it found something before, or it may come before those that wait.
     #[inline(always)]
-    pub(crate) fn may_ask(&mut self, call: &Call, available: u64) -> bool
-        ensures value { result ≡ (is_some call.now.ticket || call.now.was_served
-            || may_come_in available self.old) }
-        ensures kept { self.new ≡ self.old }
+    pub(crate) fn may_ask(&self, call: &Call, available: u64, at: u64) -> bool
+        ensures { result ≡ (is_some call.now.ticket || call.now.was_served
+            || may_come_in available at self.now) }
     {
-        call.ticket.is_some() || call.was_served || self.may_come(available)
+        call.ticket.is_some() || call.was_served || self.may_come(available, at)
     }
 
     // Whether a borrow would be told that its time is over by the settings, and may wait longer.
@@ -420,7 +421,7 @@ impl DrivenPool {
         requires asked { step_at call.old.operation ≡ Some (inputs.Borrow began) }
         requires room { lacks_room call.old.operation ≡ false }
         requires available { IsAvailable self.old available }
-        requires may { is_newcomer call.old ≡ true → may_come_in available self.old ≡ true }
+        requires may { is_newcomer call.old ≡ true → may_come_in available at self.old ≡ true }
         ensures moves { TakesFirst (inputs.Borrow began) (is_some result) caller at self.old self.new
             call.old call.new }
         ensures overtakes { CountsOvertakes caller at self.old self.new call.old call.new }
@@ -428,7 +429,7 @@ impl DrivenPool {
         ensures longer { call.new.longer ≡ call.old.longer }
     {
         let answer = self.step_for(call, caller, at, Input::Borrow { began })?;
-        self.note_answer(call, answer, available);
+        self.note_answer(call, answer, available, at);
         Some(answer)
     }
 
@@ -448,12 +449,12 @@ impl DrivenPool {
             return false;
         }
         if self.waits_on(call, began, at) {
-            self.queue_up(call);
+            self.queue_up(call, at);
             return false;
         }
         let available = self.available_to_newcomer();
-        if !self.may_ask(call, available) {
-            self.queue_up(call);
+        if !self.may_ask(call, available, at) {
+            self.queue_up(call, at);
             return false;
         }
         self.look(call, caller, at, began, available).is_some()

@@ -44,8 +44,17 @@ pub(crate) enum Start {
 /// Reads the words of a pool's line.
 pub(crate) fn options_of(words: &[&str]) -> Result<Options, LineError> {
     match *words {
-        ["pool", overtakes, activates, validates, passivates, drops] => Ok(Options {
+        [
+            "pool",
+            overtakes,
+            millis,
+            activates,
+            validates,
+            passivates,
+            drops,
+        ] => Ok(Options {
             max_overtakes: overtakes.parse()?,
+            overtake_millis: millis.parse()?,
             hooks: Hooks {
                 activates: flag_of(activates)?,
                 validates: flag_of(validates)?,

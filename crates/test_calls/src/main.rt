@@ -1,8 +1,8 @@
 //! A test program: it plays the calls of a script on a pool that a host drives, and prints what the host does next.
 //!
-//! Standard input begins with a settings text up to an empty line. The next line is `pool OVERTAKES ACTIVATES VALIDATES
-//! PASSIVATES`: the number of times that a call that waits is overtaken at most, and `yes` or `no` for each hook of the
-//! factory. Each further line is a command:
+//! Standard input begins with a settings text up to an empty line. The next line is `pool OVERTAKES MILLIS ACTIVATES
+//! VALIDATES PASSIVATES DROPS`: how often a call that has waited for so many milliseconds is overtaken at most, `yes` or
+//! `no` for each hook of the factory, and whether the journal is dropped. Each further line is a command:
 //!
 //! - `borrow SLOT CALLER AT` begins a call in one of the slots 0 to 15. So do `add`, `fill`, `evict`, `reclaim`, `clear`
 //!   and `close`; and `return SLOT CALLER AT ID TOKEN`, `invalidate` and `detach`; and `touch SLOT CALLER AT ID`.

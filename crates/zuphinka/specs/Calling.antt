@@ -155,10 +155,10 @@ pub record ReportsState (p : OpenModel) (reported : PoolState) : Type 0 where
   pub running : reported.running ≡ p.running
   pub closed : reported.is_closed ≡ closed_from p.driven.core.base p.driven.core.journal
 
--- each waiting call is overtaken at most so often from now on, or as often as the oldest one was
-pub record LimitsOvertakes (most : ℕ) (old new : OpenModel) (bound : ℕ) : Type 0 where
+-- each call that has waited for so long is overtaken at most so often from now on, or as often as the oldest one was
+pub record LimitsOvertakes (millis most : ℕ) (old new : OpenModel) (bound : ℕ) : Type 0 where
   pub is : bound ≡ max most (most_overtaken old.driven.queue.waiting)
-  pub rest : new ≡ record old { driven = record old.driven { queue = record old.driven.queue { most = bound } } }
+  pub rest : new ≡ record old { driven = record old.driven { queue = record old.driven.queue { millis = millis; most = bound } } }
 
 -- the object is lent, by what is expected of its return
 abbrev pub ends_loan : Answer → Bool
@@ -192,9 +192,9 @@ ReadsState None new before after code = (code ≡ status_code NotOpen) × (new �
 ReadsState (Some old) new before after code = (code ≡ status_code Done) × (new ≡ Some old) × ReportsState old after
 
 -- the result of a bound on overtakes for the pool in a handle
-abbrev pub LimitsIn : ℕ → Option OpenModel → Option OpenModel → ℕ → ℕ → ℕ → Type 0
-LimitsIn most None new before after code = (code ≡ status_code NotOpen) × (new ≡ None) × (after ≡ before)
-LimitsIn most (Some old) new before after code = (code ≡ status_code Done) × IsSomeAnd new (λ p. LimitsOvertakes most old p after)
+abbrev pub LimitsIn : ℕ → ℕ → Option OpenModel → Option OpenModel → ℕ → ℕ → ℕ → Type 0
+LimitsIn millis most None new before after code = (code ≡ status_code NotOpen) × (new ≡ None) × (after ≡ before)
+LimitsIn millis most (Some old) new before after code = (code ≡ status_code Done) × IsSomeAnd new (λ p. LimitsOvertakes millis most old p after)
 
 -- the result of asking the pool in a handle whether an object is lent
 abbrev pub TellsLent : ℕ → Option OpenModel → Option OpenModel → Bool → Bool → ℕ → Type 0

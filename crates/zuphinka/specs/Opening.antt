@@ -24,12 +24,13 @@ options_of o =
     record {
       hooks = record { activates = o.activates; validates = o.validates; passivates = o.passivates };
       max_overtakes = o.max_overtakes;
+      overtake_millis = o.overtake_millis;
       drops_journal = o.drops_journal;
     }
 
 -- all options are 0
 abbrev pub no_options : PoolOptions
-no_options = record { pool = 0; max_overtakes = 0; activates = false; validates = false; passivates = false; drops_journal = false }
+no_options = record { pool = 0; max_overtakes = 0; overtake_millis = 0; activates = false; validates = false; passivates = false; drops_journal = false }
 
 -- the pool in a handle changed by steps alone: the calls that wait, and the number of those in progress, are as before
 abbrev pub KeepsCalls : Option OpenModel → Option OpenModel → Type 0

@@ -301,21 +301,22 @@ pub extern "C" fn zuphinka_state(alloc: Global, pool: &mut Handle, state: &mut P
     Status::Done.code()
 }
 
-/// Lets each waiting call be overtaken at most `most` times from now on, or as often as the oldest one was, if that is more.
-/// Stores this bound in `bound`.
+/// From now on each call that has waited for `millis` milliseconds is overtaken at most `most` times, or as often as the oldest
+/// one was, if that is more. Stores this bound in `bound`.
 #[unsafe(no_mangle)]
 pub extern "C" fn zuphinka_set_overtakes(
     alloc: Global,
     pool: &mut Handle,
+    millis: u64,
     most: u64,
     bound: &mut u64,
 ) -> u32
-    ensures { LimitsIn most pool.old.held pool.new.held bound.old bound.new result }
+    ensures { LimitsIn millis most pool.old.held pool.new.held bound.old bound.new result }
 {
     let Some(mut held) = pool.take(alloc) else {
         return Status::NotOpen.code();
     };
-    *bound = held.limit_overtakes(most);
+    *bound = held.limit_overtakes(millis, most);
     pool.put(held);
     Status::Done.code()
 }

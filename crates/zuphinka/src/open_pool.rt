@@ -103,12 +103,12 @@ impl OpenPool {
         }
     }
 
-    /// Lets each waiting call be overtaken at most `most` times from now on, or as often as the oldest one was, if that is
-    /// more. Returns this bound.
-    pub(crate) fn limit_overtakes(&mut self, most: u64) -> u64
-        ensures { LimitsOvertakes most self.old self.new result }
+    /// From now on each call that has waited for `millis` milliseconds is overtaken at most `most` times, or as often as the
+    /// oldest one was, if that is more. Returns this bound.
+    pub(crate) fn limit_overtakes(&mut self, millis: u64, most: u64) -> u64
+        ensures { LimitsOvertakes millis most self.old self.new result }
     {
-        self.driven.limit_overtakes(most)
+        self.driven.limit_overtakes(millis, most)
     }
 
     /// Returns whether the object with this id is lent.

@@ -10,8 +10,10 @@ use pool_driver::{Hooks, Options};
 pub struct PoolOptions {
     /// The host's number of the pool.
     pub pool: u64,
-    /// How often a borrow that waits is overtaken at most; at 0 never.
+    /// How often a borrow that has waited for `overtake_millis` is overtaken at most; at 0 never.
     pub max_overtakes: u64,
+    /// For how long, in milliseconds, a borrow that waits may be overtaken any number of times before.
+    pub overtake_millis: u64,
     /// Whether the factory activates an object that is to be lent.
     pub activates: bool,
     /// Whether it tests objects.
@@ -22,6 +24,9 @@ pub struct PoolOptions {
     pub drops_journal: bool,
 }
 
+// The size in `zuphinka.h`.
+const _: () = prove!(size_of::<PoolOptions>() == 32);
+
 impl PoolOptions {
     /// Returns the options of a pool without hooks, whose number is 0.
     pub(crate) fn none() -> PoolOptions
@@ -30,6 +35,7 @@ impl PoolOptions {
         PoolOptions {
             pool: 0,
             max_overtakes: 0,
+            overtake_millis: 0,
             activates: false,
             validates: false,
             passivates: false,
@@ -47,6 +53,7 @@ impl PoolOptions {
                 passivates: self.passivates,
             },
             max_overtakes: self.max_overtakes,
+            overtake_millis: self.overtake_millis,
             drops_journal: self.drops_journal,
         }
     }

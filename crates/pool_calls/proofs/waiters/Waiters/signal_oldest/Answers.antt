@@ -7,4 +7,4 @@ push_back-requires-clause-above c =
 
 pub returns-clause-oldest : goal.returns-clause-oldest
 returns-clause-oldest c =
-    rw (← c.self.view_is) (oldest_ticket c.self.inside.overtakes c.self.inside.signalled.pairs c.self.inside.asleep.pairs c.pop_front.new.self.pairs c.in_ok-pair.pair c.in_ok-pair.ensures.pairs)
+    rw (← c.self.view_is) (oldest_ticket c.self.inside.overtakes c.self.inside.times.pairs c.self.inside.signalled.pairs c.self.inside.asleep.pairs c.pop_front.new.self.pairs c.in_ok-pair.pair c.in_ok-pair.ensures.pairs)

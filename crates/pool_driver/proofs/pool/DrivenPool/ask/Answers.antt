@@ -2,9 +2,7 @@ use Rattle.std.proofs.Common.{◌≡◌, ◌||◌, Bool, false, true, sym, subst
 use Rattle.std.specs.Option.{is_some}
 use Rattle.pool_journal.specs.declared.input.Input.{Input}
 use Rattle.pool_journal.specs.declared.input.Input.TheVariants as inputs
-use Rattle.pool_driver.specs.declared.report.Report.TheVariants as reports
-use Rattle.pool_driver.specs.Driving.{DrivenModel, Accepts, IsAvailable, TakesFirst, may_come_in}
-use Rattle.pool_driver.specs.Overtaking.{CountsOvertakes}
+use Rattle.pool_driver.specs.Driving.{TakesFirst, may_come_in}
 use Rattle.pool_driver.proofs.Moving.{takes_accepted, takes_reserved}
 use Rattle.pool_driver.proofs.Overtaking.{counts_reserved, counts_rest, may_as}
 use Rattle.pool_driver.proofs.pool.DrivenPool.ask.Goals as goal
@@ -21,22 +19,19 @@ returns-then-waits_on-clause-moves c =
 
 pub returns-then-not-may_ask-clause-moves : goal.returns-then-not-may_ask-clause-moves
 returns-then-not-may_ask-clause-moves c =
-    let P : DrivenModel → Type 0 = λ d. Accepts reports.GoOn d c.queue_up-then-not-may_ask.new.self c.args.call.now c.queue_up-then-not-may_ask.new.call in
     let first = c.reserve_ticket.new.self in
-    takes_reserved (inputs.Borrow c.args.began) c.args.caller c.args.at false c.args.self.now first c.queue_up-then-not-may_ask.new.self c.args.call.now c.queue_up-then-not-may_ask.new.call c.reserve_ticket.ensures.rest c.reserve_ticket.ensures.waiting c.reserve_ticket.ensures.most (takes_accepted (inputs.Borrow c.args.began) c.args.caller c.args.at first c.queue_up-then-not-may_ask.new.self c.args.call.now c.queue_up-then-not-may_ask.new.call (subst P c.may_ask.ensures.kept c.queue_up-then-not-may_ask.ensures.accepts))
+    let last = c.queue_up-then-not-may_ask.new in
+    takes_reserved (inputs.Borrow c.args.began) c.args.caller c.args.at false c.args.self.now first last.self c.args.call.now last.call c.reserve_ticket.ensures.rest c.reserve_ticket.ensures.waiting c.reserve_ticket.ensures.most (takes_accepted (inputs.Borrow c.args.began) c.args.caller c.args.at first last.self c.args.call.now last.call c.queue_up-then-not-may_ask.ensures.accepts)
 
 pub look-requires : goal.look-requires
 look-requires c =
     let available = c.available_to_newcomer-available.result in
-    let kept = sym c.may_ask.ensures.kept in
-    let A : DrivenModel → Type 0 = λ d. IsAvailable d available in
-    let M : DrivenModel → Type 0 = λ d. may_come_in available d ≡ true in
     let call = c.args.call.now in
     record {
       asked = c.requires.asked;
       room = c.requires.room;
-      available = subst A kept c.available_to_newcomer-available.ensures;
-      may = λ newcomer. subst M kept (may_as (is_some call.ticket || call.was_served) (may_come_in available c.reserve_ticket.new.self) c.if-not-may_ask.ensures.value newcomer);
+      available = c.available_to_newcomer-available.ensures;
+      may = λ newcomer. may_as (is_some call.ticket || call.was_served) (may_come_in available c.args.at c.reserve_ticket.new.self) c.if-not-may_ask.ensures newcomer;
     }
 
 pub returns-then-not-reserve_ticket-clause-overtakes : goal.returns-then-not-reserve_ticket-clause-overtakes
@@ -55,19 +50,17 @@ pub returns-then-not-may_ask-clause-overtakes : goal.returns-then-not-may_ask-cl
 returns-then-not-may_ask-clause-overtakes c =
     let first = c.reserve_ticket.new.self in
     let last = c.queue_up-then-not-may_ask.new in
-    let P : DrivenModel → Type 0 = λ d. CountsOvertakes c.args.caller c.args.at d last.self c.args.call.now last.call in
-    counts_reserved c.args.caller c.args.at c.args.self.now first last.self c.args.call.now last.call c.reserve_ticket.ensures.rest c.reserve_ticket.ensures.waiting (subst P c.may_ask.ensures.kept (counts_rest c.args.caller c.args.at c.may_ask.new.self last.self c.args.call.now last.call c.queue_up-then-not-may_ask.ensures.rests))
+    counts_reserved c.args.caller c.args.at c.args.self.now first last.self c.args.call.now last.call c.reserve_ticket.ensures.rest c.reserve_ticket.ensures.waiting (counts_rest c.args.caller c.args.at first last.self c.args.call.now last.call c.queue_up-then-not-may_ask.ensures.rests)
 
 pub returns-clause-moves : goal.returns-clause-moves
 returns-clause-moves c =
     let input : Input = inputs.Borrow c.args.began in
+    let first = c.reserve_ticket.new.self in
     let look = c.look.new in
-    let P : Bool → Type 0 = λ taken. TakesFirst input taken c.args.caller c.args.at c.may_ask.new.self look.self c.args.call.now look.call in
-    let Q : DrivenModel → Type 0 = λ d. TakesFirst input c.is_some.result c.args.caller c.args.at d look.self c.args.call.now look.call in
-    takes_reserved input c.args.caller c.args.at c.is_some.result c.args.self.now c.reserve_ticket.new.self look.self c.args.call.now look.call c.reserve_ticket.ensures.rest c.reserve_ticket.ensures.waiting c.reserve_ticket.ensures.most (subst Q c.may_ask.ensures.kept (subst P (sym c.is_some.ensures) c.look.ensures.moves))
+    let P : Bool → Type 0 = λ taken. TakesFirst input taken c.args.caller c.args.at first look.self c.args.call.now look.call in
+    takes_reserved input c.args.caller c.args.at c.is_some.result c.args.self.now first look.self c.args.call.now look.call c.reserve_ticket.ensures.rest c.reserve_ticket.ensures.waiting c.reserve_ticket.ensures.most (subst P (sym c.is_some.ensures) c.look.ensures.moves)
 
 pub returns-clause-overtakes : goal.returns-clause-overtakes
 returns-clause-overtakes c =
     let look = c.look.new in
-    let P : DrivenModel → Type 0 = λ d. CountsOvertakes c.args.caller c.args.at d look.self c.args.call.now look.call in
-    counts_reserved c.args.caller c.args.at c.args.self.now c.reserve_ticket.new.self look.self c.args.call.now look.call c.reserve_ticket.ensures.rest c.reserve_ticket.ensures.waiting (subst P c.may_ask.ensures.kept c.look.ensures.overtakes)
+    counts_reserved c.args.caller c.args.at c.args.self.now c.reserve_ticket.new.self look.self c.args.call.now look.call c.reserve_ticket.ensures.rest c.reserve_ticket.ensures.waiting c.look.ensures.overtakes

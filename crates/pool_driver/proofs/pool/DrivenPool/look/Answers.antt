@@ -11,8 +11,8 @@ pub note_answer-requires : goal.note_answer-requires
 note_answer-requires c =
     let step = c.step_for in
     let call = c.args.call.now in
-    let P : Queue → Type 0 = λ q. may_lend c.args.available q ≡ true in
-    λ none unserved. subst P (sym step.ensures.queue) (may_lend_of c.args.available c.args.self.now (c.requires.may (newcomer_of call (sym step.ensures.ticket ∙ none) (sym step.ensures.turn ∙ unserved))))
+    let P : Queue → Type 0 = λ q. may_lend c.args.available c.args.at q ≡ true in
+    λ none unserved. subst P (sym step.ensures.queue) (may_lend_of c.args.available c.args.at c.args.self.now (c.requires.may (newcomer_of call (sym step.ensures.ticket ∙ none) (sym step.ensures.turn ∙ unserved))))
 
 pub returns-clause-moves : goal.returns-clause-moves
 returns-clause-moves c =

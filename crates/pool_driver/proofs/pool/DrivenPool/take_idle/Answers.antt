@@ -31,7 +31,7 @@ returns-clause-stepped c is =
     let T : DrivenModel → Type 0 = λ d. TakesFirst input true c.args.caller c.args.at d new call last in
     let n = c.args.available in
     let there = subst (λ (d : DrivenModel). IsAvailable d n) (sym c.self.view_is) c.requires.available in
-    let may = λ (newcomer : is_newcomer call ≡ true). subst (λ (d : DrivenModel). may_come_in n d ≡ true) (sym c.self.view_is) (c.requires.may newcomer) in
+    let may = λ (newcomer : is_newcomer call ≡ true). subst (λ (d : DrivenModel). may_come_in n c.args.at d ≡ true) (sym c.self.view_is) (c.requires.may newcomer) in
     let O : DrivenModel → Type 0 = λ d. CountsOvertakes c.args.caller c.args.at d new call last in
     record {
       takes = subst T c.self.view_is (takes_then input c.args.caller c.args.at true here mid new call found last first rest);
