@@ -1,4 +1,5 @@
-use Rattle.std.proofs.Common.{◌≡◌, ◌==◌, true, List, [], ◌∷◌, ◌++◌, length, refl, sym, ap, ◌∙◌}
+use Rattle.std.proofs.Common.{◌≡◌, ◌==◌, true, List, ◌++◌, length, length-append, sym, ap, ◌∙◌, arith}
+use Rattle.std.proofs.lemmas.Bool.Decides.{nat_tests}
 use Rattle.std.proofs.lemmas.List.{length-map}
 use Rattle.sorted_index.specs.declared.pair.Pair.{Pair}
 use Rattle.pool_calls.specs.Order.{waiter_of}
@@ -11,8 +12,9 @@ returns-clause-value c =
     rw (← c.self.view_is) (c.is_empty.ensures ∙ ap (λ n. n == 0) (timed_few q.latest _ _ c.self.invariant.timed ∙ sym (length-map _ (waiter_of q.overtakes q.times.pairs))))
 
 none_signalled : (ps qs : List Pair) → (length (ps ++ qs) == 0) ≡ true → length ps ≡ 0
-none_signalled [] qs none = refl
-none_signalled (p ∷ ps) qs none = absurd (cc none)
+none_signalled ps qs none =
+    let zero : length (ps ++ qs) ≡ 0 = grind (arith, nat_tests) in
+    omega (arith, zero, length-append ps qs)
 
 pub returns-clause-signalled : goal.returns-clause-signalled
 returns-clause-signalled c none =
