@@ -110,7 +110,6 @@ impl DrivenPool {
         ensures available { IfSome result (λ r. IsAvailable self.now r.1) }
         ensures may { IfSome result (λ r. is_newcomer call.now ≡ true
             → may_come_in r.1 at self.now ≡ true) }
-        ensures unchanged { self.new ≡ self.now }
     {
         let available = self.available_to_newcomer();
         if self.is_to_forget() || !self.may_ask(call, available, at) {
