@@ -25,7 +25,7 @@ heard_none at d c fits = record {
     comes = λ turns come. come;
     queue = queues_same c.ticket d.queue d.queue refl refl;
   };
-  hears = record { core = forgets_none d.drops d.core d.core refl; drops = refl; served = refl; others = refl; draws_none = λ has. refl };
+  hears = record { core = forgets_none d.drops d.core d.core refl; drops = refl; served = refl; others = refl; draws_none = λ has. refl; latest = refl };
   longer = refl;
 }
 
@@ -42,6 +42,7 @@ heard_success at d c m told fits token comes ticket served longer = record {
     served = served;
     others = others_same c.ticket m.ticket d.queue.waiting d.queue.waiting ticket refl;
     draws_none = λ has. ticket;
+    latest = refl;
   };
   longer = longer;
 }

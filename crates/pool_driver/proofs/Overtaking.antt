@@ -1,6 +1,6 @@
 -- How calls overtake those that wait.
-use Rattle.std.proofs.Common.{◌≡◌, ℕ, eqb, ◌&&◌, ◌||◌, not, cond, if◌then◌else◌, Bool, true, false, List, [], ◌∷◌, ◌++◌, Option, Some, None, inl, inr, refl, sym, ap, ◌∙◌, subst}
-use Rattle.std.specs.Prelude.{length, nat_lt, nat_le}
+use Rattle.std.proofs.Common.{◌≡◌, ◌≤◌, ℕ, max, eqb, ◌&&◌, ◌||◌, not, cond, if◌then◌else◌, Bool, true, false, List, [], ◌∷◌, ◌++◌, Option, Some, None, inl, inr, refl, sym, ap, ◌∙◌, subst, arith}
+use Rattle.std.specs.Prelude.{length, nat_le}
 use Rattle.std.specs.Option.{is_some}
 use Rattle.std.proofs.lemmas.Bool.{both_ways, eq-eqb}
 use Rattle.pool_journal.specs.declared.answer.Answer.{Answer}
@@ -16,7 +16,7 @@ use Rattle.pool_calls.specs.declared.stage.Place.TheVariants as places
 use Rattle.pool_calls.specs.declared.operation.Operation.{Operation}
 use Rattle.pool_driver.specs.declared.call.Call.{Call}
 use Rattle.pool_driver.specs.Driving.{DrivenModel, Forgets, IsAvailable, Takes, available_in, handed, may_come_in, passed}
-use Rattle.pool_driver.specs.Overtaking.{CountsOvertakes, Course, Hears, Passes, Rests, finds, is_borrow, is_found, is_newcomer, others}
+use Rattle.pool_driver.specs.Overtaking.{CountsOvertakes, Course, Draws, Hears, Passes, Rests, finds, is_borrow, is_found, is_newcomer, others}
 use Rattle.pool_driver.proofs.Running.{forgets_none}
 
 -- ---- what a call does, one thing after the other
@@ -24,7 +24,7 @@ module _ (caller at : ℕ) where
   pub counts_same : (d : DrivenModel) (c : Call) → CountsOvertakes caller at d d c c
   counts_same d c = record { turns = []; course = (refl, refl) }
 
-  pub counts_rest : (old new : DrivenModel) (before after : Call) → Rests old new before after → CountsOvertakes caller at old new before after
+  pub counts_rest : (old new : DrivenModel) (before after : Call) → Rests at old new before after → CountsOvertakes caller at old new before after
   counts_rest old new before after rests = record { turns = None ∷ []; course = (new, after, rests, (refl, refl)) }
 
   pub counts_pass : (t : Turn) (old new : DrivenModel) (before after : Call) → Passes caller at t old new before after → CountsOvertakes caller at old new before after
@@ -88,52 +88,59 @@ pub draws_none : (t u : Option ℕ) (A : Type 0) → u ≡ t → is_some u ≡ t
 draws_none t u A same has none = never (is_some u) A (ap is_some (same ∙ none)) has
 
 -- it has drawn a ticket
-pub rests_drawn : (d n : ℕ) (old new : DrivenModel) (before after : Call) → new.core ≡ old.core → new.drops ≡ old.drops → after.was_served ≡ before.was_served → is_waiting after.operation ≡ true → before.ticket ≡ None → after.ticket ≡ Some d → new.queue.waiting ≡ old.queue.waiting ++ newest d n ∷ [] → is_in d old.queue.waiting ≡ false → Rests old new before after
-rests_drawn d n old new before after core drops served waits none some drawn fresh = record {
+pub rests_drawn : (at d : ℕ) (old new : DrivenModel) (before after : Call) → new.core ≡ old.core → new.drops ≡ old.drops → after.was_served ≡ before.was_served → is_waiting after.operation ≡ true → before.ticket ≡ None → after.ticket ≡ Some d → new.queue.waiting ≡ old.queue.waiting ++ newest d (max at old.queue.latest) ∷ [] → new.queue.latest ≡ max at old.queue.latest → is_in d old.queue.waiting ≡ false → Rests at old new before after
+rests_drawn at d old new before after core drops served waits none some drawn latest fresh = record {
   core = forgets_none old.drops old.core new.core core;
   drops = drops;
   served = served;
-  others = others_drawn d n before.ticket after.ticket old.queue.waiting new.queue.waiting none some drawn fresh;
-  draws = λ has had_none. waits;
+  others = others_drawn d (max at old.queue.latest) before.ticket after.ticket old.queue.waiting new.queue.waiting none some drawn fresh;
+  draws = λ has had_none. record { waits = waits; last = λ t is. last t (sym some ∙ is) };
+  latest = omega (arith, latest);
   waits = λ has waited. waits;
 }
+  where
+    last : (t : ℕ) → Some d ≡ Some t → new.queue.waiting ≡ old.queue.waiting ++ newest t (max at old.queue.latest) ∷ []
+    last t is = subst (λ (n : ℕ). new.queue.waiting ≡ old.queue.waiting ++ newest n (max at old.queue.latest) ∷ []) (cc is) drawn
 
 -- it has neither drawn a ticket nor left
-pub rests_kept : (old new : DrivenModel) (before after : Call) → Forgets old.drops old.core new.core → new.drops ≡ old.drops → after.was_served ≡ before.was_served → (is_waiting before.operation ≡ true → is_waiting after.operation ≡ true) → after.ticket ≡ before.ticket → new.queue.waiting ≡ old.queue.waiting → Rests old new before after
-rests_kept old new before after core drops served waits ticket waiting = record {
+pub rests_kept : (at : ℕ) (old new : DrivenModel) (before after : Call) → Forgets old.drops old.core new.core → new.drops ≡ old.drops → after.was_served ≡ before.was_served → (is_waiting before.operation ≡ true → is_waiting after.operation ≡ true) → after.ticket ≡ before.ticket → new.queue.waiting ≡ old.queue.waiting → new.queue.latest ≡ old.queue.latest → Rests at old new before after
+rests_kept at old new before after core drops served waits ticket waiting latest = record {
   core = core;
   drops = drops;
   served = served;
   others = others_same before.ticket after.ticket old.queue.waiting new.queue.waiting ticket waiting;
-  draws = λ has none. draws_none before.ticket after.ticket (is_waiting after.operation ≡ true) ticket has none;
+  draws = λ has none. draws_none before.ticket after.ticket (Draws at old.queue new.queue after) ticket has none;
+  latest = omega (arith, latest);
   waits = λ has waited. waits waited;
 }
 
 -- it queued before
-pub rests_queued : (queued : Operation) (old new : DrivenModel) (before after : Call) → is_some (step_at before.operation) ≡ true → Rests old new (record before { operation = queued }) after → Rests old new before after
-rests_queued queued old new before after asks p = record {
+pub rests_queued : (at : ℕ) (queued : Operation) (old new : DrivenModel) (before after : Call) → is_some (step_at before.operation) ≡ true → Rests at old new (record before { operation = queued }) after → Rests at old new before after
+rests_queued at queued old new before after asks p = record {
   core = p.core;
   drops = p.drops;
   served = p.served;
   others = p.others;
   draws = p.draws;
+  latest = p.latest;
   waits = λ has waited. asking_waits before.operation (is_waiting after.operation ≡ true) asks waited;
 }
 
 -- it has heard a report
-pub rests_heard : (token : ℕ) (old new : DrivenModel) (before after : Call) → Hears old new before after → Rests old new (record before { operation = after.operation; token = token }) after
-rests_heard token old new before after p = record {
+pub rests_heard : (at token : ℕ) (old new : DrivenModel) (before after : Call) → Hears old new before after → Rests at old new (record before { operation = after.operation; token = token }) after
+rests_heard at token old new before after p = record {
   core = p.core;
   drops = p.drops;
   served = p.served;
   others = p.others;
-  draws = λ has none. draws_none before.ticket after.ticket (is_waiting after.operation ≡ true) (p.draws_none has) has none;
+  draws = λ has none. draws_none before.ticket after.ticket (Draws at old.queue new.queue after) (p.draws_none has) has none;
+  latest = omega (arith, p.latest);
   waits = λ has waited. waited;
 }
 
 -- a step that is none of a borrow's asking
-pub passes_other : (caller at : ℕ) (input : Input) (answer : Answer) (out : Option ℕ) (old new : DrivenModel) (before after : Call) → is_borrow input ≡ false → step_at before.operation ≡ Some input → Takes caller at input (handed input before.token) old.drops old.core new.core answer out → new.drops ≡ old.drops → after.was_served ≡ before.was_served → after.ticket ≡ before.ticket → new.queue.waiting ≡ old.queue.waiting → CountsOvertakes caller at old new before after
-passes_other caller at input answer out old new before after other asked takes drops served ticket waiting =
+pub passes_other : (caller at : ℕ) (input : Input) (answer : Answer) (out : Option ℕ) (old new : DrivenModel) (before after : Call) → is_borrow input ≡ false → step_at before.operation ≡ Some input → Takes caller at input (handed input before.token) old.drops old.core new.core answer out → new.drops ≡ old.drops → after.was_served ≡ before.was_served → after.ticket ≡ before.ticket → new.queue.waiting ≡ old.queue.waiting → new.queue.latest ≡ old.queue.latest → CountsOvertakes caller at old new before after
+passes_other caller at input answer out old new before after other asked takes drops served ticket waiting latest =
     let none : finds input answer ≡ false = ap (λ b. b && is_found answer) other in
     counts_pass caller at (record { input = input; answer = answer }) old new before after (record {
       asked = asked;
@@ -141,7 +148,8 @@ passes_other caller at input answer out old new before after other asked takes d
       takes = takes;
       drops = drops;
       served = served ∙ ap (λ b. b || before.was_served) (sym none);
-      draws = λ has had_none. draws_none before.ticket after.ticket (is_waiting after.operation ≡ true) ticket has had_none;
+      draws = λ has had_none. draws_none before.ticket after.ticket (Draws at old.queue new.queue after) ticket has had_none;
+      latest = omega (arith, latest);
       may = λ found newcomer. never (finds input answer) (may_lend (available_in old.core) at old.queue ≡ true) none found;
       others =
           others_same before.ticket after.ticket old.queue.waiting new.queue.waiting ticket waiting
@@ -192,8 +200,8 @@ pub may_as : (early may : Bool) → true ≡ (early || may) → not early ≡ tr
 may_as true may is newcomer = absurd (cc newcomer)
 may_as false may is newcomer = sym is
 
-pub passes_asked : (caller at began available : ℕ) (answer : Answer) (out : Option ℕ) (old mid new : DrivenModel) (before step after : Call) → step_at before.operation ≡ Some (inputs.Borrow began) → IsAvailable old available → (is_newcomer before ≡ true → may_come_in available at old ≡ true) → Takes caller at (inputs.Borrow began) (handed (inputs.Borrow began) before.token) old.drops old.core mid.core answer out → mid.drops ≡ old.drops → mid.queue ≡ old.queue → step.ticket ≡ before.ticket → step.was_served ≡ before.was_served → new.core ≡ mid.core → new.drops ≡ mid.drops → after.was_served ≡ (is_found answer || step.was_served) → (is_some after.ticket ≡ true → step.ticket ≡ None → is_waiting after.operation ≡ true) → others after.ticket new.queue.waiting ≡ passed (is_found answer && is_newcomer step && counts_overtake available at mid.queue) (others step.ticket mid.queue.waiting) → CountsOvertakes caller at old new before after
-passes_asked caller at began available answer out old mid new before step after asked there may takes drops queue ticket turn core kept served draws passes =
+pub passes_asked : (caller at began available : ℕ) (answer : Answer) (out : Option ℕ) (old mid new : DrivenModel) (before step after : Call) → step_at before.operation ≡ Some (inputs.Borrow began) → IsAvailable old available → (is_newcomer before ≡ true → may_come_in available at old ≡ true) → Takes caller at (inputs.Borrow began) (handed (inputs.Borrow began) before.token) old.drops old.core mid.core answer out → mid.drops ≡ old.drops → mid.queue ≡ old.queue → step.ticket ≡ before.ticket → step.was_served ≡ before.was_served → new.core ≡ mid.core → new.drops ≡ mid.drops → after.was_served ≡ (is_found answer || step.was_served) → (is_some after.ticket ≡ true → step.ticket ≡ None → Draws at mid.queue new.queue after) → new.queue.latest ≤ max at mid.queue.latest → others after.ticket new.queue.waiting ≡ passed (is_found answer && is_newcomer step && counts_overtake available at mid.queue) (others step.ticket mid.queue.waiting) → CountsOvertakes caller at old new before after
+passes_asked caller at began available answer out old mid new before step after asked there may takes drops queue ticket turn core kept served draws latest passes =
     let input : Input = inputs.Borrow began in
     let C : _ → Type 0 = λ m. Takes caller at input (handed input before.token) old.drops old.core m answer out in
     counts_pass caller at (record { input = input; answer = answer }) old new before after (record {
@@ -202,7 +210,8 @@ passes_asked caller at began available answer out old mid new before step after 
       takes = subst C (sym core) takes;
       drops = kept ∙ drops;
       served = served ∙ ap (λ s. is_found answer || s) turn;
-      draws = λ has none. draws has (ticket ∙ none);
+      draws = λ has none. subst (λ (q : Queue). Draws at q new.queue after) queue (draws has (ticket ∙ none));
+      latest = subst (λ (q : Queue). new.queue.latest ≤ max at q.latest) queue latest;
       may = λ found newcomer. may_there available at old there (may newcomer);
       others =
           passes
@@ -213,13 +222,13 @@ passes_asked caller at began available answer out old mid new before step after 
     })
 
 -- what a borrow does before it asks
-pub counts_reserved : (caller at : ℕ) (a b c : DrivenModel) (first last : Call) → b ≡ record a { queue = b.queue } → b.queue.waiting ≡ a.queue.waiting → CountsOvertakes caller at b c first last → CountsOvertakes caller at a c first last
-counts_reserved caller at a b c first last same waiting p =
-    let rests = rests_kept a b first first (forgets_none a.drops a.core b.core (ap (λ d. d.core) same)) (ap (λ d. d.drops) same) refl (λ waits. waits) refl waiting in
+pub counts_reserved : (caller at : ℕ) (a b c : DrivenModel) (first last : Call) → b ≡ record a { queue = b.queue } → b.queue.waiting ≡ a.queue.waiting → b.queue.latest ≡ a.queue.latest → CountsOvertakes caller at b c first last → CountsOvertakes caller at a c first last
+counts_reserved caller at a b c first last same waiting latest p =
+    let rests = rests_kept at a b first first (forgets_none a.drops a.core b.core (ap (λ d. d.core) same)) (ap (λ d. d.drops) same) refl (λ waits. waits) refl waiting latest in
     counts_on caller at a b c first first last (counts_rest caller at a b first first rests) p
 
 -- the greatest time says nothing of the tickets
 pub counts_later : (time caller at : ℕ) (old new : DrivenModel) (before after : Call) → CountsOvertakes caller at old new before after → CountsOvertakes caller at old (record new { last = time }) before after
 counts_later time caller at old new before after p =
-    let rests = rests_kept new (record new { last = time }) after after (forgets_none new.drops new.core new.core refl) refl refl (λ waits. waits) refl refl in
+    let rests = rests_kept at new (record new { last = time }) after after (forgets_none new.drops new.core new.core refl) refl refl (λ waits. waits) refl refl refl in
     counts_on caller at old new (record new { last = time }) before after after p (counts_rest caller at new (record new { last = time }) after after rests)

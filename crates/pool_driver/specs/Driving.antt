@@ -1,11 +1,10 @@
 -- The pool that a host drives, and the steps of its calls.
-use Rattle.std.specs.Prelude.{◌≡◌, ℕ, zero, suc, ◌+◌, ◌-◌, ◌^◌, ◌/◌, ◌&&◌, ◌||◌, not, nat_lt, nat_le, min, if◌then◌else◌, Bool, true, false, List, [], ◌∷◌, ◌++◌, map, Option, Some, None, unwrap_or, option_and_then, length, Result, Ok, Err, ℤ, pos, negsuc, ◌⊎◌}
+use Rattle.std.specs.Prelude.{◌≡◌, ℕ, zero, suc, ◌+◌, ◌-◌, ◌^◌, ◌&&◌, ◌||◌, not, nat_lt, nat_le, min, if◌then◌else◌, Bool, true, false, List, [], ◌∷◌, ◌++◌, map, Option, Some, None, unwrap_or, option_and_then, length, Result, Ok, Err, ℤ, pos, negsuc, ◌⊎◌}
 use Rattle.std.specs.Option.{is_some}
 use Rattle.pool_journal.specs.declared.answer.Answer.{Answer}
 use Rattle.pool_journal.specs.declared.answer.Answer.TheVariants as answers
 use Rattle.pool_journal.specs.declared.input.Input.{Input}
 use Rattle.pool_journal.specs.declared.input.Input.TheVariants as inputs
-use Rattle.pool_journal.specs.declared.input.Outcome.TheVariants as outcomes
 use Rattle.pool_journal.specs.declared.entry.Entry.{Entry}
 use Rattle.pool_journal.specs.Base.{base_after, empty_base, closed_from}
 use Rattle.pool_journal.specs.Carrying.{carries}
@@ -15,7 +14,6 @@ use Rattle.pool_stats.specs.declared.counts.Counts.{Counts}
 use Rattle.pool_core.specs.Core.{Answered}
 use Rattle.pool_core.specs.declared.step_fault.StepFault.{StepFault}
 use Rattle.pool_core.specs.declared.step_fault.StepFault.TheVariants as faults
-use Rattle.pool_core.specs.Fits.{limit_from, owed_from}
 use Rattle.pool_core.specs.Legal.{entry_of}
 use Rattle.pool_core.specs.Pool.{CoreModel}
 use Rattle.pool_core.specs.Reconfigured.{reconfigured}

@@ -1,5 +1,5 @@
 -- How calls overtake those that wait.
-use Rattle.std.specs.Prelude.{◌≡◌, ℕ, ◌&&◌, ◌||◌, not, Bool, true, false, List, [], ◌∷◌, Option, Some, None}
+use Rattle.std.specs.Prelude.{◌≡◌, ◌≤◌, ℕ, max, ◌&&◌, ◌||◌, not, Bool, true, false, List, [], ◌∷◌, ◌++◌, Option, Some, None}
 use Rattle.std.specs.Option.{is_some}
 use Rattle.pool_journal.specs.declared.answer.Answer.{Answer}
 use Rattle.pool_journal.specs.declared.answer.Answer.TheVariants as answers
@@ -7,7 +7,7 @@ use Rattle.pool_journal.specs.declared.input.Input.{Input}
 use Rattle.pool_journal.specs.declared.input.Input.TheVariants as inputs
 use Rattle.pool_calls.specs.Operations.{is_waiting, step_at}
 use Rattle.pool_calls.specs.Turns.{Turn}
-use Rattle.pool_calls.specs.Waiting.{Waiter, counts_overtake, may_lend, without}
+use Rattle.pool_calls.specs.Waiting.{Queue, Waiter, counts_overtake, may_lend, newest, without}
 use Rattle.pool_driver.specs.Driving.{DrivenModel, Forgets, Takes, available_in, handed, passed}
 use Rattle.pool_driver.specs.declared.call.Call.{Call}
 
@@ -41,14 +41,21 @@ pub record Hears (old new : DrivenModel) (before after : Call) : Type 0 where
   pub served : after.was_served ≡ before.was_served
   pub others : others after.ticket new.queue.waiting ≡ others before.ticket old.queue.waiting
   pub draws_none : is_some after.ticket ≡ true → after.ticket ≡ before.ticket
+  pub latest : new.queue.latest ≡ old.queue.latest
+
+-- a call that has drawn a ticket waits behind all others, from this time on, or from the latest so far at which one began to wait
+pub record Draws (at : ℕ) (old new : Queue) (call : Call) : Type 0 where
+  pub waits : is_waiting call.operation ≡ true
+  pub last : (t : ℕ) → call.ticket ≡ Some t → new.waiting ≡ old.waiting ++ newest t (max at old.latest) ∷ []
 
 -- a call that takes no step finds nothing, and overtakes nobody. One that draws a ticket waits, and asks for no step while it has it
-pub record Rests (old new : DrivenModel) (before after : Call) : Type 0 where
+pub record Rests (at : ℕ) (old new : DrivenModel) (before after : Call) : Type 0 where
   pub core : Forgets old.drops old.core new.core
   pub drops : new.drops ≡ old.drops
   pub served : after.was_served ≡ before.was_served
   pub others : others after.ticket new.queue.waiting ≡ others before.ticket old.queue.waiting
-  pub draws : is_some after.ticket ≡ true → before.ticket ≡ None → is_waiting after.operation ≡ true
+  pub draws : is_some after.ticket ≡ true → before.ticket ≡ None → Draws at old.queue new.queue after
+  pub latest : new.queue.latest ≤ max at old.queue.latest
   pub waits : is_some after.ticket ≡ true → is_waiting before.operation ≡ true → is_waiting after.operation ≡ true
 
 -- a call takes the step that it asks for. A newcomer finds something only if it may overtake those that wait, or leaves them enough, or none of
@@ -59,7 +66,8 @@ pub record Passes (caller at : ℕ) (turn : Turn) (old new : DrivenModel) (befor
   pub takes : Takes caller at turn.input (handed turn.input before.token) old.drops old.core new.core turn.answer out
   pub drops : new.drops ≡ old.drops
   pub served : after.was_served ≡ (finds turn.input turn.answer || before.was_served)
-  pub draws : is_some after.ticket ≡ true → before.ticket ≡ None → is_waiting after.operation ≡ true
+  pub draws : is_some after.ticket ≡ true → before.ticket ≡ None → Draws at old.queue new.queue after
+  pub latest : new.queue.latest ≤ max at old.queue.latest
   pub may : finds turn.input turn.answer ≡ true → is_newcomer before ≡ true → may_lend (available_in old.core) at old.queue ≡ true
   pub others :
       others after.ticket new.queue.waiting
@@ -69,7 +77,7 @@ pub record Passes (caller at : ℕ) (turn : Turn) (old new : DrivenModel) (befor
 abbrev pub Course : ℕ → ℕ → List (Option Turn) → DrivenModel → DrivenModel → Call → Call → Type 0
 Course caller at [] old new before after = (new ≡ old) × (after ≡ before)
 Course caller at (None ∷ ts) old new before after =
-    (mid : DrivenModel) × (call : Call) × Rests old mid before call × Course caller at ts mid new call after
+    (mid : DrivenModel) × (call : Call) × Rests at old mid before call × Course caller at ts mid new call after
 Course caller at (Some t ∷ ts) old new before after =
     (mid : DrivenModel) × (call : Call) × Passes caller at t old mid before call × Course caller at ts mid new call after
 

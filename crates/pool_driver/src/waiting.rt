@@ -1,5 +1,5 @@
 //! The waits of borrows: which one may ask, which one sleeps on, and what each does when it wakes up.
-ghost use Rattle.std.specs.Prelude.{◌≡◌, ◌-◌, ◌&&◌, ◌||◌, IfSome, Some, None, true, false, max, length};
+ghost use Rattle.std.specs.Prelude.{◌≡◌, ◌≤◌, ℕ, ◌-◌, ◌&&◌, ◌||◌, IfSome, Some, None, true, false, max, length};
 ghost use Rattle.std.specs.Option.{is_some};
 ghost use Rattle.pool_calls.specs.Operations.{Proceeds, fits, is_waiting, lacks_room, step_at};
 ghost use Rattle.pool_calls.specs.Turns.{is_done};
@@ -10,7 +10,7 @@ ghost use Rattle.pool_journal.specs.declared.input.Input.TheVariants as inputs;
 ghost use Rattle.pool_calls.specs.declared.action.Event.TheVariants as events;
 ghost use Rattle.pool_driver.specs.declared.report.Report.TheVariants as reports;
 ghost use Rattle.pool_driver.specs.Queueing.{Queues};
-ghost use Rattle.pool_driver.specs.Overtaking.{CountsOvertakes, Hears, Rests, is_found, is_newcomer, others};
+ghost use Rattle.pool_driver.specs.Overtaking.{CountsOvertakes, Draws, Hears, Rests, is_found, is_newcomer, others};
 ghost use Rattle.pool_driver.specs.Driving.{Accepts, HasRoom, IsAvailable, IsWoken, LacksRoomOnlyEmpty, LooksIf, Moves, TakesFirst, available_in, may_come_in, passed, until_of, has_waited, sleeps_until, waking_at, waking_of, waits_on};
 
 use crate::call::Call;
@@ -110,6 +110,7 @@ impl DrivenPool {
         ensures call { call.new ≡ record call.old { ticket = None } }
         ensures queue { Queues call.old.ticket None self.old.queue self.new.queue }
         ensures others { self.new.queue.waiting ≡ others call.old.ticket self.old.queue.waiting }
+        ensures latest { self.new.queue.latest ≡ self.old.queue.latest }
     {
         if let Some(ticket) = call.ticket {
             let _ = self.waiters.leave(ticket);
@@ -219,7 +220,7 @@ impl DrivenPool {
     #[inline(always)]
     pub(crate) fn leave_at_end(&mut self, call: &mut Call, action: Action)
         ensures accepts { Accepts reports.GoOn self.old self.new call.old call.new }
-        ensures rests { Rests self.old self.new call.old call.new }
+        ensures rests { (at : ℕ) → Rests at self.old self.new call.old call.new }
         ensures rest { self.new ≡ record self.old {
           queue = self.new.queue;
           holds_back = self.new.holds_back;
@@ -248,7 +249,7 @@ impl DrivenPool {
     // A borrow that waits, and has no ticket, draws one.
     fn draw_ticket(&mut self, call: &mut Call, at: u64)
         ensures accepts { Accepts reports.GoOn self.old self.new call.old call.new }
-        ensures rests { Rests self.old self.new call.old call.new }
+        ensures rests { Rests at self.old self.new call.old call.new }
         ensures room { lacks_room call.new.operation ≡ true
             → lacks_room call.old.operation ≡ true }
         ensures longer { call.new.longer ≡ call.old.longer }
@@ -275,6 +276,7 @@ impl DrivenPool {
         ensures queue { Queues call.now.ticket call.now.ticket self.old.queue self.new.queue }
         ensures waiting { self.new.queue.waiting ≡ passed (is_newcomer call.now
             && counts_overtake available at self.old.queue) self.old.queue.waiting }
+        ensures latest { self.new.queue.latest ≡ self.old.queue.latest }
     {
         if call.ticket.is_none() && !call.was_served {
             self.waiters.note_lent(available, at);
@@ -294,6 +296,7 @@ impl DrivenPool {
             (others call.old.ticket self.old.queue.waiting) }
         ensures operation { call.new.operation ≡ call.old.operation }
         ensures longer { call.new.longer ≡ call.old.longer }
+        ensures latest { self.new.queue.latest ≡ self.old.queue.latest }
     {
         self.count_overtake(call, available, at);
         call.was_served = true;
@@ -310,7 +313,8 @@ impl DrivenPool {
             ≡ passed (is_found answer && is_newcomer call.old && counts_overtake available at
             self.old.queue) (others call.old.ticket self.old.queue.waiting) }
         ensures draws { is_some call.new.ticket ≡ true → call.old.ticket ≡ None
-            → is_waiting call.new.operation ≡ true }
+            → Draws at self.old.queue self.new.queue call.new }
+        ensures latest { self.new.queue.latest ≤ max at self.old.queue.latest }
         ensures room { lacks_room call.new.operation ≡ true
             → lacks_room call.old.operation ≡ true }
         ensures longer { call.new.longer ≡ call.old.longer }
@@ -326,7 +330,7 @@ impl DrivenPool {
     fn queue_up(&mut self, call: &mut Call, at: u64)
         requires { is_some (step_at call.old.operation) ≡ true }
         ensures accepts { Accepts reports.GoOn self.old self.new call.old call.new }
-        ensures rests { Rests self.old self.new call.old call.new }
+        ensures rests { Rests at self.old self.new call.old call.new }
         ensures room { lacks_room call.new.operation ≡ true
             → lacks_room call.old.operation ≡ true }
         ensures longer { call.new.longer ≡ call.old.longer }
@@ -341,6 +345,7 @@ impl DrivenPool {
         ensures waiting { self.new.queue.waiting ≡ self.old.queue.waiting }
         ensures most { self.new.queue.most ≡ self.old.queue.most }
         ensures overtakes { self.new.queue.overtakes ≡ self.old.queue.overtakes }
+        ensures latest { self.new.queue.latest ≡ self.old.queue.latest }
         ensures rest { self.new ≡ record self.old { queue = self.new.queue } }
     {
         self.waiters.reserve(1).is_ok()
@@ -397,7 +402,7 @@ impl DrivenPool {
     // A borrow for which there is no memory ends.
     fn end_for_memory(&mut self, call: &mut Call)
         ensures accepts { Accepts reports.GoOn self.old self.new call.old call.new }
-        ensures rests { Rests self.old self.new call.old call.new }
+        ensures rests { (at : ℕ) → Rests at self.old self.new call.old call.new }
         ensures room { lacks_room call.new.operation ≡ true
             → lacks_room call.old.operation ≡ true }
         ensures longer { call.new.longer ≡ call.old.longer }

@@ -1,4 +1,4 @@
-use Rattle.std.proofs.Common.{◌≡◌, ◌||◌, Bool, false, true, sym, subst}
+use Rattle.std.proofs.Common.{◌||◌, Bool, false, sym, subst}
 use Rattle.std.specs.Option.{is_some}
 use Rattle.pool_journal.specs.declared.input.Input.{Input}
 use Rattle.pool_journal.specs.declared.input.Input.TheVariants as inputs
@@ -38,19 +38,19 @@ pub returns-then-not-reserve_ticket-clause-overtakes : goal.returns-then-not-res
 returns-then-not-reserve_ticket-clause-overtakes c =
     let first = c.reserve_ticket.new.self in
     let last = c.end_for_memory.new in
-    counts_reserved c.args.caller c.args.at c.args.self.now first last.self c.args.call.now last.call c.reserve_ticket.ensures.rest c.reserve_ticket.ensures.waiting (counts_rest c.args.caller c.args.at first last.self c.args.call.now last.call c.end_for_memory.ensures.rests)
+    counts_reserved c.args.caller c.args.at c.args.self.now first last.self c.args.call.now last.call c.reserve_ticket.ensures.rest c.reserve_ticket.ensures.waiting c.reserve_ticket.ensures.latest (counts_rest c.args.caller c.args.at first last.self c.args.call.now last.call (c.end_for_memory.ensures.rests c.args.at))
 
 pub returns-then-waits_on-clause-overtakes : goal.returns-then-waits_on-clause-overtakes
 returns-then-waits_on-clause-overtakes c =
     let first = c.reserve_ticket.new.self in
     let last = c.queue_up.new in
-    counts_reserved c.args.caller c.args.at c.args.self.now first last.self c.args.call.now last.call c.reserve_ticket.ensures.rest c.reserve_ticket.ensures.waiting (counts_rest c.args.caller c.args.at first last.self c.args.call.now last.call c.queue_up.ensures.rests)
+    counts_reserved c.args.caller c.args.at c.args.self.now first last.self c.args.call.now last.call c.reserve_ticket.ensures.rest c.reserve_ticket.ensures.waiting c.reserve_ticket.ensures.latest (counts_rest c.args.caller c.args.at first last.self c.args.call.now last.call c.queue_up.ensures.rests)
 
 pub returns-then-not-may_ask-clause-overtakes : goal.returns-then-not-may_ask-clause-overtakes
 returns-then-not-may_ask-clause-overtakes c =
     let first = c.reserve_ticket.new.self in
     let last = c.queue_up-then-not-may_ask.new in
-    counts_reserved c.args.caller c.args.at c.args.self.now first last.self c.args.call.now last.call c.reserve_ticket.ensures.rest c.reserve_ticket.ensures.waiting (counts_rest c.args.caller c.args.at first last.self c.args.call.now last.call c.queue_up-then-not-may_ask.ensures.rests)
+    counts_reserved c.args.caller c.args.at c.args.self.now first last.self c.args.call.now last.call c.reserve_ticket.ensures.rest c.reserve_ticket.ensures.waiting c.reserve_ticket.ensures.latest (counts_rest c.args.caller c.args.at first last.self c.args.call.now last.call c.queue_up-then-not-may_ask.ensures.rests)
 
 pub returns-clause-moves : goal.returns-clause-moves
 returns-clause-moves c =
@@ -63,4 +63,4 @@ returns-clause-moves c =
 pub returns-clause-overtakes : goal.returns-clause-overtakes
 returns-clause-overtakes c =
     let look = c.look.new in
-    counts_reserved c.args.caller c.args.at c.args.self.now c.reserve_ticket.new.self look.self c.args.call.now look.call c.reserve_ticket.ensures.rest c.reserve_ticket.ensures.waiting c.look.ensures.overtakes
+    counts_reserved c.args.caller c.args.at c.args.self.now c.reserve_ticket.new.self look.self c.args.call.now look.call c.reserve_ticket.ensures.rest c.reserve_ticket.ensures.waiting c.reserve_ticket.ensures.latest c.look.ensures.overtakes

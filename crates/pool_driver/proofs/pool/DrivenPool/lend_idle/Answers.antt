@@ -1,14 +1,14 @@
-use Rattle.std.proofs.Common.{◌≡◌, ℕ, true, Some, None, refl, sym, subst}
+use Rattle.std.proofs.Common.{◌≡◌, ℕ, true, Some, None, refl, sym, subst, arith}
 use Rattle.pool_journal.specs.declared.answer.Answer.TheVariants as answers
 use Rattle.pool_journal.specs.declared.input.Input.{Input}
 use Rattle.pool_journal.specs.declared.input.Input.TheVariants as inputs
 use Rattle.pool_journal.specs.declared.input.Outcome.TheVariants as outcomes
 use Rattle.pool_core.specs.Core.{Answered}
 use Rattle.pool_core.specs.Pool.{CoreModel}
-use Rattle.pool_calls.specs.Operations.{is_waiting, step_at}
+use Rattle.pool_calls.specs.Operations.{step_at}
 use Rattle.pool_driver.specs.declared.report.Report.TheVariants as reports
 use Rattle.pool_driver.specs.Driving.{DrivenModel, Accepts, IsAvailable, TakesFirst, may_come_in}
-use Rattle.pool_driver.specs.Overtaking.{CountsOvertakes, is_newcomer}
+use Rattle.pool_driver.specs.Overtaking.{CountsOvertakes, Draws, is_newcomer}
 use Rattle.pool_driver.specs.declared.call.Call.{Call}
 use Rattle.pool_driver.proofs.Moving.{moves_step, takes_on, takes_step, takes_then}
 use Rattle.pool_driver.proofs.Overtaking.{counts_on, draws_none, passes_asked, passes_other}
@@ -44,8 +44,8 @@ returns-clause-stepped c is =
     let n = c.args.available in
     let there = subst (λ (d : DrivenModel). IsAvailable d n) (sym c.self.view_is) c.requires.available in
     let may = λ (newcomer : is_newcomer call ≡ true). subst (λ (d : DrivenModel). may_come_in n c.args.at d ≡ true) (sym c.self.view_is) (c.requires.may newcomer) in
-    let first_pass = passes_asked c.args.caller c.args.at c.args.began n (answers.Take c.args.id) (Some token) here mid noted call found served c.requires.asked there may taken refl refl refl refl refl note.accepts.rest.drops note.served (λ has none. draws_none None served.ticket (is_waiting served.operation ≡ true) note.ticket has refl) note.others in
-    let second_pass = passes_other c.args.caller c.args.at ready answers.Lent None noted new served last refl asked readied refl refl refl refl in
+    let first_pass = passes_asked c.args.caller c.args.at c.args.began n (answers.Take c.args.id) (Some token) here mid noted call found served c.requires.asked there may taken refl refl refl refl refl note.accepts.rest.drops note.served (λ has none. draws_none None served.ticket (Draws c.args.at mid.queue noted.queue served) note.ticket has refl) (omega (arith, note.latest)) note.others in
+    let second_pass = passes_other c.args.caller c.args.at ready answers.Lent None noted new served last refl asked readied refl refl refl refl refl in
     let O : DrivenModel → Type 0 = λ d. CountsOvertakes c.args.caller c.args.at d new call last in
     record {
       takes = subst T c.self.view_is (takes_on input c.args.caller c.args.at true here noted new call served last refl then second);

@@ -22,9 +22,9 @@ pub returns-clause-overtakes : goal.returns-clause-overtakes
 returns-clause-overtakes c =
     let step = c.in_ok-answer.ensures in
     let note = c.note_answer.ensures in
-    passes_asked c.args.caller c.args.at c.args.began c.args.available c.in_ok-answer.answer step.taken.0 c.args.self.now c.step_for.new.self c.note_answer.new.self c.args.call.now c.step_for.new.call c.note_answer.new.call c.requires.asked c.requires.available c.requires.may step.taken.1 step.drops step.queue step.ticket step.turn note.accepts.core note.accepts.rest.drops note.served note.draws note.others
+    passes_asked c.args.caller c.args.at c.args.began c.args.available c.in_ok-answer.answer step.taken.0 c.args.self.now c.step_for.new.self c.note_answer.new.self c.args.call.now c.step_for.new.call c.note_answer.new.call c.requires.asked c.requires.available c.requires.may step.taken.1 step.drops step.queue step.ticket step.turn note.accepts.core note.accepts.rest.drops note.served note.draws note.latest note.others
 
 pub returns-in_err-answer-clause-overtakes : goal.returns-in_err-answer-clause-overtakes
 returns-in_err-answer-clause-overtakes c =
     let step = c.step_for.ensures in
-    counts_rest c.args.caller c.args.at c.args.self.now c.step_for.new.self c.args.call.now c.step_for.new.call (rests_kept c.args.self.now c.step_for.new.self c.args.call.now c.step_for.new.call c.in_err-answer.ensures.failed step.drops step.turn (λ waits. asking_waits c.args.call.now.operation (is_waiting c.step_for.new.call.operation ≡ true) (ap (λ s. is_some s) c.requires.asked) waits) step.ticket (ap (λ q. q.waiting) step.queue))
+    counts_rest c.args.caller c.args.at c.args.self.now c.step_for.new.self c.args.call.now c.step_for.new.call (rests_kept c.args.at c.args.self.now c.step_for.new.self c.args.call.now c.step_for.new.call c.in_err-answer.ensures.failed step.drops step.turn (λ waits. asking_waits c.args.call.now.operation (is_waiting c.step_for.new.call.operation ≡ true) (ap (λ s. is_some s) c.requires.asked) waits) step.ticket (ap (λ q. q.waiting) step.queue) (ap (λ q. q.latest) step.queue))

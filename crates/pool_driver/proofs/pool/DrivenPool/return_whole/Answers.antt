@@ -31,8 +31,8 @@ returns-clause-stepped c is =
     let first = takes_step input c.args.caller c.args.at answers.Check None here mid call found c.requires.asked checked refl goes.begins.comes refl refl refl refl in
     let second = moves_step c.args.caller c.args.at mid new found last park answers.Parked None asked back refl goes.ends.comes refl refl refl refl in
     let T : DrivenModel → Type 0 = λ d. TakesFirst input true c.args.caller c.args.at d new call last in
-    let first_pass = passes_other c.args.caller c.args.at input answers.Check None here mid call found refl c.requires.asked checked refl refl refl refl in
-    let second_pass = passes_other c.args.caller c.args.at park answers.Parked None mid new found last refl asked back refl refl refl refl in
+    let first_pass = passes_other c.args.caller c.args.at input answers.Check None here mid call found refl c.requires.asked checked refl refl refl refl refl in
+    let second_pass = passes_other c.args.caller c.args.at park answers.Parked None mid new found last refl asked back refl refl refl refl refl in
     let O : DrivenModel → Type 0 = λ d. CountsOvertakes c.args.caller c.args.at d new call last in
     record {
       takes = subst T c.self.view_is (takes_on input c.args.caller c.args.at true here mid new call found last refl first second);

@@ -27,12 +27,12 @@ pub returns-in-Ok-clause-other : goal.returns-in-Ok-clause-other
 returns-in-Ok-clause-other c =
     let rest = c.take.ensures.rest in
     let A : Option ℕ → Type 0 = λ v. Takes c.args.caller c.args.at c.args.input v c.args.self.now.drops c.args.self.now.core c.take.new.self.core c.in-Ok.answer c.in-Ok.out in
-    λ other. passes_other c.args.caller c.args.at c.args.input c.in-Ok.answer c.in-Ok.out c.args.self.now c.take.new.self c.args.call.now c.tell_answer.new.call other c.requires.asked (subst A c.token_for-value.ensures.value c.in-Ok.ensures.taken) (ap (λ d. d.drops) rest) c.tell_answer.ensures.turn c.tell_answer.ensures.ticket (ap (λ d. d.queue.waiting) rest)
+    λ other. passes_other c.args.caller c.args.at c.args.input c.in-Ok.answer c.in-Ok.out c.args.self.now c.take.new.self c.args.call.now c.tell_answer.new.call other c.requires.asked (subst A c.token_for-value.ensures.value c.in-Ok.ensures.taken) (ap (λ d. d.drops) rest) c.tell_answer.ensures.turn c.tell_answer.ensures.ticket (ap (λ d. d.queue.waiting) rest) (ap (λ d. d.queue.latest) rest)
 
 pub returns-in-Err-clause-other : goal.returns-in-Err-clause-other
 returns-in-Err-clause-other c =
     let rest = c.take.ensures.rest in
-    λ other. counts_rest c.args.caller c.args.at c.args.self.now c.take.new.self c.args.call.now c.tell_failure.new.call (rests_kept c.args.self.now c.take.new.self c.args.call.now c.tell_failure.new.call c.in-Err.ensures.failed (ap (λ d. d.drops) rest) c.tell_failure.ensures.turn (λ waits. asking_waits c.args.call.now.operation (is_waiting c.tell_failure.new.call.operation ≡ true) (ap (λ s. is_some s) c.requires.asked) waits) c.tell_failure.ensures.ticket (ap (λ d. d.queue.waiting) rest))
+    λ other. counts_rest c.args.caller c.args.at c.args.self.now c.take.new.self c.args.call.now c.tell_failure.new.call (rests_kept c.args.at c.args.self.now c.take.new.self c.args.call.now c.tell_failure.new.call c.in-Err.ensures.failed (ap (λ d. d.drops) rest) c.tell_failure.ensures.turn (λ waits. asking_waits c.args.call.now.operation (is_waiting c.tell_failure.new.call.operation ≡ true) (ap (λ s. is_some s) c.requires.asked) waits) c.tell_failure.ensures.ticket (ap (λ d. d.queue.waiting) rest) (ap (λ d. d.queue.latest) rest))
 
 pub returns-in-Ok-clause-taken : goal.returns-in-Ok-clause-taken
 returns-in-Ok-clause-taken c =

@@ -1,10 +1,9 @@
-use Rattle.std.proofs.Common.{◌≡◌, ◌∙◌, true, None, unwrap_or, refl, sym, ap, subst}
+use Rattle.std.proofs.Common.{◌≡◌, ◌∙◌, true, None, unwrap_or, refl, sym, ap, subst, arith}
 use Rattle.pool_journal.specs.declared.answer.Answer.TheVariants as answers
 use Rattle.pool_journal.specs.declared.input.Input.{Input}
 use Rattle.pool_journal.specs.declared.input.Input.TheVariants as inputs
-use Rattle.pool_calls.specs.Operations.{is_waiting}
 use Rattle.pool_driver.specs.Driving.{Accepts, DrivenModel, IsAvailable, TakesFirst, may_come_in}
-use Rattle.pool_driver.specs.Overtaking.{CountsOvertakes, is_newcomer}
+use Rattle.pool_driver.specs.Overtaking.{CountsOvertakes, Draws, is_newcomer}
 use Rattle.pool_driver.specs.declared.call.Call.{Call}
 use Rattle.pool_driver.specs.declared.report.Report.TheVariants as reports
 use Rattle.pool_driver.proofs.Moving.{takes_step, takes_then}
@@ -35,7 +34,7 @@ returns-clause-stepped c is =
     let O : DrivenModel → Type 0 = λ d. CountsOvertakes c.args.caller c.args.at d new call last in
     record {
       takes = subst T c.self.view_is (takes_then input c.args.caller c.args.at true here mid new call found last first rest);
-      overtakes = subst O c.self.view_is (passes_asked c.args.caller c.args.at c.args.began n (answers.Take c.args.id) c.in-Ok.out here mid new call found last c.requires.asked there may taken refl refl refl refl note.accepts.core note.accepts.rest.drops note.served (λ has none. draws_none None last.ticket (is_waiting last.operation ≡ true) note.ticket has refl) note.others);
+      overtakes = subst O c.self.view_is (passes_asked c.args.caller c.args.at c.args.began n (answers.Take c.args.id) c.in-Ok.out here mid new call found last c.requires.asked there may taken refl refl refl refl note.accepts.core note.accepts.rest.drops note.served (λ has none. draws_none None last.ticket (Draws c.args.at mid.queue new.queue last) note.ticket has refl) (omega (arith, note.latest)) note.others);
       room = c.in-Some.ensures.room;
       longer = c.note_found.ensures.longer;
     }

@@ -17,7 +17,7 @@ returns-clause-stepped g c is =
     let taken = takes_uncut c.args.caller c.args.at c.args.input (handed c.args.input call.token) here.drops here.core new.core c.args.answer None (c.step_usual.ensures.answered did) in
     record {
       takes = takes_step c.args.input c.args.caller c.args.at c.args.answer None here new call last c.requires.asked taken refl c.in-Some.ensures.comes (ap (λ d. d.plan) rest) (ap (λ d. d.drops) rest) (ap (λ d. d.queue) rest) refl;
-      overtakes = passes_other c.args.caller c.args.at c.args.input c.args.answer None here new call last c.requires.other c.requires.asked taken (ap (λ d. d.drops) rest) refl refl (ap (λ d. d.queue.waiting) rest);
+      overtakes = passes_other c.args.caller c.args.at c.args.input c.args.answer None here new call last c.requires.other c.requires.asked taken (ap (λ d. d.drops) rest) refl refl (ap (λ d. d.queue.waiting) rest) (ap (λ d. d.queue.latest) rest);
       room = c.in-Some.ensures.room;
       longer = refl;
     }

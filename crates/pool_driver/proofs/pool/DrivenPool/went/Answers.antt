@@ -1,4 +1,4 @@
-use Rattle.std.proofs.Common.{rules, ◌≡◌, ℕ, ap, refl, sym, ◌∙◌, subst}
+use Rattle.std.proofs.Common.{rules, ℕ, ap, refl, sym, ◌∙◌, subst}
 use Rattle.pool_calls.specs.Operations.{step_at}
 use Rattle.pool_calls.specs.Turns.{asks_room}
 use Rattle.pool_driver.specs.Driving.{DrivenModel, GoesFrom, Moves, told}
@@ -20,9 +20,9 @@ returns c report caller old heard before mid hears ran =
     let goes = from_told caller time report step old heard here before mid call hears.accepts ran.goes in
     let rest = from_left caller time step old here left.self first call left.call goes c.leave_at_end.ensures.accepts c.leave_at_end.ensures.operation in
     let later = from_later caller time time step old left.self first left.call rest in
-    let begun = counts_rest caller time old heard first mid (rests_heard (told report before).token old heard before mid hears.hears) in
+    let begun = counts_rest caller time old heard first mid (rests_heard time (told report before).token old heard before mid hears.hears) in
     let steps = counts_on caller time old heard here first mid call begun ran.overtakes in
-    let done = counts_on caller time old here left.self first call left.call steps (counts_rest caller time here left.self call left.call c.leave_at_end.ensures.rests) in
+    let done = counts_on caller time old here left.self first call left.call steps (counts_rest caller time here left.self call left.call (c.leave_at_end.ensures.rests time)) in
     let counted = counts_later time caller time old left.self first left.call done in
     let took = moves_told report caller time old heard here before mid call hears.accepts (moves_from caller time step heard here mid call ran.goes) in
     let moved = moves_on caller time old here left.self (told report before) call left.call took (moves_accepted caller time here left.self call left.call c.leave_at_end.ensures.accepts) in
