@@ -105,7 +105,7 @@ struct maker {
   bool has_chance, is_plain, has_no_clock; /* calls fail at random; some callbacks are null; the clock is null */
   bool is_fair;                            /* as in the host */
   uint32_t max_overtakes;                  /* the same */
-  uint64_t max_lifetime_ms, leak_after_ms; /* the same */
+  uint64_t overtake_ms, max_lifetime_ms, leak_after_ms; /* the same */
   atomic_uint_fast64_t leaks;              /* loans that were reported */
   struct { uint64_t id, since; uint32_t borrower; } leak; /* the last one, in a test of one thread */
   uint64_t seed;
@@ -217,6 +217,7 @@ static struct zuphinka_pool_host host_of(struct maker *maker) {
                                      .passivate = passivate_thing,
                                      .destroy = destroy_thing,
                                      .now = tell_time,
+                                     .overtake_ms = maker->overtake_ms,
                                      .max_overtakes = maker->max_overtakes,
                                      .is_fair = maker->is_fair,
                                      .max_lifetime_ms = maker->max_lifetime_ms,
@@ -1970,7 +1971,10 @@ static const struct {
   int most;
 } overtaking[] = {{false, 0, 64}, {false, 3, 3}, {false, 1, 1}, {true, 0, 0}, {true, 3, 0}};
 
-enum { CHOICES = sizeof overtaking / sizeof *overtaking, MANY_TIMES = 300 };
+enum { CHOICES = sizeof overtaking / sizeof *overtaking, THREE_TIMES = 1, MANY_TIMES = 300 };
+
+/* For how long, in milliseconds, a thread has waited before that counts, if the host doesn't say. */
+enum { OVERTAKE_MS = 5 };
 
 /* Opens a pool of one object with such a choice, lends the object, and lets a thread wait for it. */
 static struct zuphinka_pool_loan open_waited(int choice, const char *settings, struct waiter *waiter, void *(*run)(void *)) {
@@ -1982,9 +1986,10 @@ static struct zuphinka_pool_loan open_waited(int choice, const char *settings, s
   return loan;
 }
 
-/* Returns how often a thread that returns an object takes it again before one that was woken by the return looks. */
-static int overtakes_of(struct zuphinka_pool *pool, struct zuphinka_pool_loan *loan, const struct waiter *waiter) {
+/* Returns how often a thread that returns an object, some milliseconds later, takes it again before one that was woken by the return looks. */
+static int overtakes_after(uint64_t passed, struct zuphinka_pool *pool, struct zuphinka_pool_loan *loan, const struct waiter *waiter) {
   int overtakes = 0;
+  atomic_fetch_add(&maker.now, passed);
   atomic_store(&maker.held, waiter->caller + 1);
   give_back(pool, loan);
   for (; overtakes < MANY_TIMES && zuphinka_pool_try_get(pool, loan) == ZUPHINKA_POOL_ERROR_NONE; overtakes++) {
@@ -2001,7 +2006,7 @@ static void test_overtakes_are_bounded(void) {
     struct zuphinka_pool_loan loan = open_waited(choice, "maxTotal = 1\n", &waiters[0], wait_for_one), none;
     struct zuphinka_pool *pool = maker.pool;
     start(&waiters[1], overtaking[choice].most > 0, pool, wait_for_one);
-    check(overtakes_of(pool, &loan, &waiters[0]) == overtaking[choice].most);
+    check(overtakes_after(OVERTAKE_MS, pool, &loan, &waiters[0]) == overtaking[choice].most);
     uint64_t steps = counts_of(pool).steps;
     check_error(zuphinka_pool_try_get(pool, &none), ZUPHINKA_POOL_ERROR_EXHAUSTED);
     check_error(zuphinka_pool_get_timed(pool, 0, &none), ZUPHINKA_POOL_ERROR_TIMED_OUT);
@@ -2011,18 +2016,34 @@ static void test_overtakes_are_bounded(void) {
     join(&waiters[0], 1, ZUPHINKA_POOL_ERROR_NONE);
     if (overtaking[choice].most == 0) start(&waiters[1], 1, pool, wait_for_one);
     check(atomic_fetch_add(&((struct thing *)waiters[0].loan.object)->holders, 1) == 0);
-    check(overtakes_of(pool, &waiters[0].loan, &waiters[1]) == 0);
+    check(overtakes_after(OVERTAKE_MS, pool, &waiters[0].loan, &waiters[1]) == 0);
     atomic_store(&maker.held, 0);
     join(&waiters[1], 1, ZUPHINKA_POOL_ERROR_NONE);
     start(&waiters[2], 1, pool, wait_for_one);
     check(atomic_fetch_add(&((struct thing *)waiters[1].loan.object)->holders, 1) == 0);
-    check(overtakes_of(pool, &waiters[1].loan, &waiters[2]) == overtaking[choice].most);
+    check(overtakes_after(OVERTAKE_MS, pool, &waiters[1].loan, &waiters[2]) == overtaking[choice].most);
     atomic_store(&maker.held, 0);
     join(&waiters[2], 1, ZUPHINKA_POOL_ERROR_NONE);
     check_error(zuphinka_pool_give_back(pool, &waiters[2].loan), ZUPHINKA_POOL_ERROR_NONE);
     loan = lend(pool);
     give_back(pool, &loan);
     end_pool(pool);
+  }
+}
+
+/* Any number of borrows overtake a thread until it has waited for as long as the host says, and from then on no more than it says. */
+static void test_overtakes_by_time(void) {
+  for (uint64_t choice = 0; choice < 3; choice++) {
+    struct waiter waiter;
+    maker.overtake_ms = 10 * choice;
+    struct zuphinka_pool_loan loan = open_waited(THREE_TIMES, "maxTotal = 1\n", &waiter, borrow_and_return);
+    uint64_t time = choice == 0 ? OVERTAKE_MS : maker.overtake_ms;
+    check(overtakes_after(time - 1, maker.pool, &loan, &waiter) == MANY_TIMES);
+    loan = lend(maker.pool);
+    check(overtakes_after(1, maker.pool, &loan, &waiter) == overtaking[THREE_TIMES].most);
+    atomic_store(&maker.held, 0);
+    join(&waiter, 1, ZUPHINKA_POOL_ERROR_NONE);
+    end_pool(maker.pool);
   }
 }
 
@@ -2044,6 +2065,7 @@ static void test_no_thread_starves(void) {
   for (int choice = 0; choice < CHOICES; choice++) {
     struct waiter waiter;
     struct zuphinka_pool_loan loan = open_waited(choice, "maxTotal = 1\n", &waiter, borrow_and_return);
+    atomic_fetch_add(&maker.now, OVERTAKE_MS);
     for (int round = 0; round < MANY_TIMES; round++) {
       give_back(maker.pool, &loan);
       loan = lend(maker.pool);
@@ -2065,12 +2087,13 @@ static bool overtakes(struct zuphinka_pool *pool, const struct waiter *waiter, s
   return is_lent;
 }
 
-/* Opens a pool of one object, borrows it, and starts a thread that waits for it. */
+/* Opens a pool of one object, borrows it, and lets a thread wait for it, until overtakes count. */
 static struct zuphinka_pool *open_overtaken(uint32_t most, struct waiter *waiter, struct zuphinka_pool_loan *loan) {
   maker.max_overtakes = most;
   struct zuphinka_pool *pool = open_kept("maxTotal = 1\n", 1);
   check_error(zuphinka_pool_get(pool, loan), ZUPHINKA_POOL_ERROR_NONE);
   start(waiter, 1, pool, borrow_and_return);
+  atomic_fetch_add(&maker.now, OVERTAKE_MS);
   return pool;
 }
 
@@ -2153,6 +2176,7 @@ static void *take_turns(void *argument) {
 
 /* Each of the threads that borrow again and again has all its turns, whether it finds an object while it pauses or while it sleeps. */
 static void test_threads_take_turns(void) {
+  atomic_store(&maker.ticks, 1);
   for (int choice = 0; choice < CHOICES; choice++) {
     struct waiter waiters[TAKERS];
     maker.is_fair = overtaking[choice].is_fair;
@@ -3700,6 +3724,7 @@ static const struct {
     TEST(loan_that_changes),
     TEST(one_loan_in_some_threads),
     TEST(overtakes_are_bounded),
+    TEST(overtakes_by_time),
     TEST(no_thread_starves),
     TEST(woken_for_nothing_once),
     TEST(overtaken_without_limit),

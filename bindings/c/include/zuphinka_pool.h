@@ -119,14 +119,17 @@ struct zuphinka_pool_host {
    * later, until its journal is full. A host that does without a segment returns true. */
   zuphinka_pool_store *store;
 
-  /* How many borrows may overtake a thread that waits: 1 to 4,294,967,295; 0 stands for 64. Threads that wait queue in the order of arrival. A
-   * borrow overtakes them if it begins later and takes an object or a place that they could have had; each thread counts from the beginning of its
-   * wait. Once so many have overtaken the first one, further borrows queue too, and `zuphinka_pool_try_get` finds nothing. They also do so once any
-   * thread that waits was woken and found nothing, until one leaves the queue. From 2,147,483,647 on there is no limit, and no borrow queues while
-   * there is an object or a place: more loans per second, and no bound to a wait. */
+  /* How long a thread waits, in milliseconds by the pool's clock, while any number of borrows may overtake it; 0 stands for 5. Threads that wait queue
+   * in the order of arrival. A borrow overtakes them if it begins later and takes an object or a place that they could have had. */
+  uint64_t overtake_ms;
+
+  /* How many borrows may overtake a thread that has waited for so long, from then on: 1 to 4,294,967,295; 0 stands for 64. Once so many have overtaken
+   * the first one, further borrows queue too, and `zuphinka_pool_try_get` finds nothing. They also do so if the first one has waited for so long, and any
+   * thread was woken and found nothing, until one leaves the queue. From 2,147,483,647 on there is no limit, and no borrow queues while there is an
+   * object or a place: a wait has no bound. */
   uint32_t max_overtakes;
 
-  /* Whether no borrow overtakes a thread that waits, whatever `max_overtakes` says. */
+  /* Whether no borrow overtakes a thread that waits, whatever these two say. */
   bool is_fair;
 
   /* The age at which objects are destroyed, in milliseconds by the pool's clock since they were made; 0: at none. An object of that age or more is not

@@ -353,6 +353,7 @@ static enum zuphinka_pool_error open_core(struct zuphinka_pool *pool, const char
   const struct zuphinka_pool_host *host = &pool->host;
   struct zuphinka_options options = {.pool = pool->number,
                                      .max_overtakes = host->max_overtakes ? host->max_overtakes : MOST_OVERTAKES,
+                                     .overtake_millis = host->overtake_ms ? host->overtake_ms : OVERTAKE_MS,
                                      .activates = host->activate || host->max_lifetime_ms > 0,
                                      .validates = host->validate,
                                      .passivates = host->passivate || host->max_lifetime_ms > 0,
@@ -361,7 +362,7 @@ static enum zuphinka_pool_error open_core(struct zuphinka_pool *pool, const char
   cpu_set_t processors;
   enum zuphinka_pool_error error = read_settings(settings, length, &setup);
   if (error) return error;
-  if (host->is_fair) options.max_overtakes = 0;
+  if (host->is_fair) options.max_overtakes = options.overtake_millis = 0;
   uint32_t status = zuphinka_open_with(&pool->core, settings, length, &options);
   take_settings(pool, &setup);
   pool->processors = sched_getaffinity(0, sizeof processors, &processors) == 0 ? (uint64_t)CPU_COUNT(&processors) : CPU_SETSIZE;

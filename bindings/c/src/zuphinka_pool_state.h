@@ -14,7 +14,8 @@
 enum {
   CUT = 256, /* the condition of threads that wait for a cut; those before it are for threads that wait for an object */
   CONDITIONS,
-  MOST_OVERTAKES = 64, /* of a borrow that waits, if the host doesn't say */
+  OVERTAKE_MS = 5,     /* for which a borrow that waits may be overtaken any number of times, if the host doesn't say */
+  MOST_OVERTAKES = 64, /* of it after that, the same */
   MOST_LINES = 256,    /* that are copied in one critical section */
   TRIES = 16,          /* allocations that fail one after the other before a copy gives up */
   LAG = 10,            /* milliseconds by which the host's clock may be behind before a wait ends that is not over by it, and so without an entry */
