@@ -40,6 +40,7 @@ pub struct Builder<M: Manager> {
     clock: Option<GivenClock>,
     max_lifetime: Option<Duration>,
     on_error: Option<OnError<M>>,
+    overtake_time: Duration,
     max_overtakes: u32,
     maintenance: Option<(Start<M>, Duration)>,
     name: Option<Arc<str>>,
@@ -69,6 +70,7 @@ impl<M: Manager> Builder<M> {
             clock: None,
             max_lifetime: None,
             on_error: None,
+            overtake_time: DEFAULT_OVERTAKE_TIME,
             max_overtakes: DEFAULT_OVERTAKES,
             maintenance: None,
             name: None,
@@ -196,25 +198,37 @@ impl<M: Manager> Builder<M> {
         self
     }
 
-    /// Sets how often a waiting borrow is overtaken at most, from 0 to 2^32 - 1 (64; in Commons Pool 2 there is no limit unless `fairness` is set).
-    /// With 0 the pool is fair.
+    /// Sets how long a borrow waits, by the pool's clock, while any number of later borrows may overtake it (5 milliseconds).
     ///
-    /// A later borrow overtakes those who wait if it takes an object or a place, and no more are there than borrows that wait. Once the oldest was
-    /// overtaken so often, or one was woken and found nothing, later borrows queue behind those who wait, until one has its object or leaves. A
-    /// borrow that does not wait then fails as if nothing were there.
+    /// A later borrow overtakes those who wait if it takes an object or a place, and no more are there than borrows that wait. Overtaking costs no
+    /// sleep, so a long time lends more objects per second where many wait. A short one makes the longest wait shorter.
+    pub fn overtake_time(mut self, time: Duration) -> Builder<M> {
+        self.overtake_time = time;
+        self
+    }
+
+    /// Sets how often a borrow is overtaken at most once it has waited for [`overtake_time`](Builder::overtake_time), from 0 to 2^32 - 1 (64; in
+    /// Commons Pool 2 there is no limit unless `fairness` is set). With 0 and no time the pool is fair.
+    ///
+    /// Once the oldest was overtaken so often, or has waited for that time and one was woken and found nothing, later borrows queue behind those who
+    /// wait, until one has its object or leaves. A borrow that does not wait then fails as if nothing were there.
     ///
     /// From 2^31 - 1 on there is no limit, as in Commons Pool 2, and no borrow queues while there is an object or a place.
-    ///
-    /// Overtaking costs no sleep, so a high number lends more objects per second where many wait. A low one makes the longest wait shorter.
     pub fn max_overtakes(mut self, times: u32) -> Builder<M> {
         self.max_overtakes = times;
         self
     }
 
     /// Sets whether those who wait are served in the order of arrival and nobody overtakes them (false), as `fairness` does in Commons Pool 2. It
-    /// sets the number of [`max_overtakes`](Builder::max_overtakes): 0 if the pool is fair, 64 otherwise.
+    /// sets [`overtake_time`](Builder::overtake_time) and [`max_overtakes`](Builder::max_overtakes): to 0 if the pool is fair, and otherwise to their
+    /// defaults.
     pub fn fair(self, is_fair: bool) -> Builder<M> {
-        self.max_overtakes(if is_fair { 0 } else { DEFAULT_OVERTAKES })
+        match is_fair {
+            true => self.overtake_time(Duration::ZERO).max_overtakes(0),
+            false => self
+                .overtake_time(DEFAULT_OVERTAKE_TIME)
+                .max_overtakes(DEFAULT_OVERTAKES),
+        }
     }
 
     /// Sets what becomes of the journal. The default is [`Journal::Off`].
@@ -348,7 +362,8 @@ impl<M: Manager> Builder<M> {
         }
         let options = sys::Options {
             pool: 0,
-            max_overtakes: self.max_overtakes.into(),
+            max_overtakes: policy.max_overtakes.into(),
+            overtake_millis: policy.overtake_millis,
             activates: M::ACTIVATES,
             validates: true,
             passivates: M::PASSIVATES,
@@ -372,6 +387,7 @@ impl<M: Manager> Builder<M> {
         Policy {
             max_lifetime: self.max_lifetime.map(|time| millis(time).unsigned_abs()),
             journal_limit,
+            overtake_millis: millis(self.overtake_time).unsigned_abs(),
             max_overtakes: self.max_overtakes,
             reports: Reports::new(self.on_error.take()),
             name: self.name.take(),
@@ -458,7 +474,10 @@ impl<M: Manager + 'static> Builder<M> {
     }
 }
 
-/// How often a waiter is overtaken at most, if nothing else is set.
+/// For how long a waiter is overtaken without a limit, if nothing else is set.
+const DEFAULT_OVERTAKE_TIME: Duration = Duration::from_millis(5);
+
+/// How often a waiter is overtaken at most after that, if nothing else is set.
 const DEFAULT_OVERTAKES: u32 = 64;
 
 /// The greatest `journalLimit`.

@@ -15,8 +15,8 @@ fn time(millis: i64) -> Option<Duration> {
     u64::try_from(millis).ok().map(Duration::from_millis)
 }
 
-/// The settings, by the names that [`Builder`](crate::Builder) gives them. [`reconfigure`](Pool::reconfigure) changes all but `max_overtakes` and
-/// `max_lifetime`. Each call but those two takes the lock.
+/// The settings, by the names that [`Builder`](crate::Builder) gives them. [`reconfigure`](Pool::reconfigure) changes all but `overtake_time`,
+/// `max_overtakes` and `max_lifetime`. Each call but those three takes the lock.
 impl<M: Manager> Pool<M> {
     /// Returns the most objects at one time; `None`: no limit.
     pub fn max_total(&self) -> Option<u32> {
@@ -48,7 +48,12 @@ impl<M: Manager> Pool<M> {
         time(self.shared().settings().max_wait_millis)
     }
 
-    /// Returns how often a waiting borrow is overtaken at most.
+    /// Returns how long a borrow waits while any number of later ones may overtake it.
+    pub fn overtake_time(&self) -> Duration {
+        Duration::from_millis(self.shared().policy.overtake_millis)
+    }
+
+    /// Returns how often a borrow is overtaken at most once it has waited for that time.
     pub fn max_overtakes(&self) -> u32 {
         self.shared().policy.max_overtakes
     }

@@ -41,7 +41,8 @@
 //!
 //! A borrow that finds nothing waits. Threads and tasks wait in one order, that of arrival, and are woken in it, one for each object or place.
 //! But a borrow that finds an idle object takes it at once, even if others wait: this costs no sleep. One that finds its object taken keeps
-//! its turn and waits again. No waiter is overtaken more than 64 times ([`Builder::max_overtakes`]); then later borrows queue behind it.
+//! its turn and waits again. One that has waited for 5 ms ([`Builder::overtake_time`]) is overtaken 64 times more at most
+//! ([`Builder::max_overtakes`]); then later borrows queue behind it.
 //! A thread that waits, for an object or for the pool's lock, pauses for up to 25 µs before it sleeps, if a processor is left for it beside the
 //! threads that it waits for.
 //!

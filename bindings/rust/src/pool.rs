@@ -72,8 +72,9 @@ impl<M: Manager> Pool<M> {
     /// (`blockWhenExhausted`, `maxWaitMillis`).
     ///
     /// A borrow that finds an idle object or a free place takes it, even if others wait. Those that wait are woken in the order of arrival, one
-    /// for each object or place. One that finds it taken keeps its turn and waits again. Once the oldest waiter was overtaken as often as
-    /// [`Builder::max_overtakes`] allows, or found what it was woken for taken, a borrow queues behind it, and makes no entry meanwhile.
+    /// for each object or place. One that finds it taken keeps its turn and waits again. Once the oldest waiter has waited for
+    /// [`Builder::overtake_time`], and then was overtaken as often as [`Builder::max_overtakes`] allows, or one found what it was woken for taken, a
+    /// borrow queues behind it, and makes no entry meanwhile.
     ///
     /// With [`Journal::Segments`](crate::Journal::Segments) this call may store a segment. If the journal is full, it waits for the
     /// thread that stores one ([`Timeout::for_sink`](crate::Timeout::for_sink)). Both waits together are no longer than `maxWaitMillis`.
@@ -467,7 +468,7 @@ impl<M: Manager> Pool<M> {
     /// Settings that the text does not name have their defaults, not their values so far. What the builder set besides the settings stays: a limit
     /// in [`Journal::Memory`](crate::Journal::Memory) or [`Segments::limit`](crate::Segments::limit) and the 2^32 of
     /// [`Journal::Off`](crate::Journal::Off), each instead of `journalLimit`; the lifetime of objects, with which `testWhileIdle` is set; and
-    /// [`Builder::max_overtakes`].
+    /// [`Builder::overtake_time`] and [`Builder::max_overtakes`].
     ///
     /// The objects stay, also if they are more than `maxTotal` then: none is made until fewer are present. Those that wait are woken if there are
     /// more places. A borrow or a return in progress goes on with the tests that were set when it began. A wait has the new `maxWaitMillis` once it

@@ -35,7 +35,9 @@ pub(crate) struct Policy<M: Manager> {
     pub max_lifetime: Option<u64>,
     /// The limit of the journal, if it is not that of the settings.
     pub journal_limit: Option<u64>,
-    /// How often a waiter is overtaken.
+    /// For how long, in milliseconds, a waiter is overtaken without a limit.
+    pub overtake_millis: u64,
+    /// How often it is after that.
     pub max_overtakes: u32,
     pub reports: Reports<M>,
     /// The name of the pool in messages.

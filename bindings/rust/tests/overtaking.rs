@@ -1,11 +1,11 @@
-//! How often borrows overtake those that wait: at most as often as the pool allows.
+//! How often borrows overtake those that wait: for as long as the pool allows, and then at most as often as it allows.
 
 mod common;
 #[path = "common/hooks.rs"]
 #[macro_use]
 mod hooks;
 
-use common::managers::{kept, pool_with, Maker, Numbers};
+use common::managers::{kept, pool_with, Clock, Maker, Numbers};
 use common::tasks::{poll, ready, Bell, LONGEST};
 use common::{assert_legal, entries_of, journal_of, steps_of, while_waiting};
 use std::sync::atomic::{AtomicBool, Ordering};
@@ -17,6 +17,7 @@ use zuphinka::{caller_number, Builder, Error, Get, Pool, Pooled};
 
 with_and_without_hooks! {
     a_waiter_is_overtaken_64_times_at_most
+    a_waiter_is_overtaken_without_a_limit_for_a_time
     a_pool_may_be_fair
     a_waiter_that_was_woken_for_nothing_is_not_overtaken_again
     an_overtake_counts_against_each_waiter
@@ -34,12 +35,13 @@ with_and_without_hooks! {
 
 type Numbered<const HOOKS: bool> = Pool<Numbers<HOOKS>>;
 
-/// A pool of some objects, with a clock that stands still.
+/// A pool of some objects, with a clock that stands still. Each overtake counts.
 fn pool<const HOOKS: bool>(
     objects: u32,
     change: impl FnOnce(Builder<Numbers<HOOKS>>) -> Builder<Numbers<HOOKS>>,
 ) -> Numbered<HOOKS> {
     let builder = kept().max_total(objects).max_wait(LONGEST).clock(|| 0);
+    let builder = builder.overtake_time(Duration::ZERO);
     change(builder).build(Numbers).unwrap()
 }
 
@@ -87,6 +89,27 @@ fn a_waiter_is_overtaken_64_times_at_most<const HOOKS: bool>() {
     assert_eq!((steps_of(&pool).len(), pool.counts()), (steps, counts));
     drop(lent(&mut get, &bell));
     assert!(pool.try_get().is_ok());
+    assert_legal(&pool);
+}
+
+fn a_waiter_is_overtaken_without_a_limit_for_a_time<const HOOKS: bool>() {
+    let (clock, bell) = (Clock::default(), Bell::new());
+    let pool = pool::<HOOKS>(1, |builder| {
+        let time = Duration::from_micros(19_001);
+        let builder = builder.clock(clock.told()).overtake_time(time);
+        builder.max_overtakes(3)
+    });
+    clock.set(100);
+    let mut held = pool.get().unwrap();
+    let mut get = waiting(&pool, &bell);
+    clock.set(119);
+    for _ in 0..100 {
+        drop(held);
+        held = pool.try_get().unwrap();
+    }
+    clock.set(120);
+    assert_eq!(overtakes(&pool, held), 3);
+    drop(lent(&mut get, &bell));
     assert_legal(&pool);
 }
 
@@ -219,7 +242,7 @@ fn a_borrow_takes_what_is_left_beyond_the_waiters<const HOOKS: bool>() {
 }
 
 fn a_borrow_times_out_behind_a_waiter<const HOOKS: bool>() {
-    let clock = common::managers::Clock::default();
+    let clock = Clock::default();
     let pool = pool::<HOOKS>(1, |builder| {
         let builder = builder.max_overtakes(0).clock(clock.told());
         builder.max_wait(Duration::from_millis(20))

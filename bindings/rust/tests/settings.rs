@@ -207,7 +207,7 @@ type Setting = (
 const ABANDONED: Abandoned = Abandoned::new().on_borrow(true).timeout(MINUTE);
 
 /// Each setting, with a value that is not its default.
-const SETTINGS: [Setting; 20] = [
+const SETTINGS: [Setting; 21] = [
     (|it| it.max_total(5), |it| it.max_total() == Some(5)),
     (|it| it.max_total(None), |it| it.max_total().is_none()),
     (|it| it.max_idle(3), |it| it.max_idle() == Some(3)),
@@ -220,6 +220,10 @@ const SETTINGS: [Setting; 20] = [
     ),
     (|it| it.max_wait(MINUTE), |it| it.max_wait() == Some(MINUTE)),
     (|it| it.max_wait(None), |it| it.max_wait().is_none()),
+    (
+        |it| it.overtake_time(MINUTE),
+        |it| it.overtake_time() == MINUTE,
+    ),
     (|it| it.max_overtakes(0), |it| it.max_overtakes() == 0),
     (|it| it.test_on_create(true), |it| it.test_on_create()),
     (|it| it.test_on_borrow(true), |it| it.test_on_borrow()),
@@ -277,8 +281,8 @@ fn no_setting_is_lost_by_a_text() {
             Err(error) => assert_eq!(error, SettingsError::NotFirst),
         }
     }
-    // The journal, the overtakes and the lifetime.
-    assert_eq!(kept, 3);
+    // The journal, the overtakes and their time, and the lifetime.
+    assert_eq!(kept, 4);
     let once: Builder<Numbers> = Pool::builder().settings("maxTotal = 5\n").unwrap();
     assert_eq!(once.settings("").map(drop), Err(SettingsError::NotFirst));
 }
@@ -334,9 +338,10 @@ fn a_value_out_of_range_is_told_by_its_method() {
 
 #[test]
 fn a_fair_pool_lets_nobody_overtake() {
-    for (is_fair, overtakes) in [(true, 0), (false, 64)] {
-        let builder = Pool::builder().max_overtakes(3).fair(is_fair);
-        let pool = builder.build(Numbers).unwrap();
+    for (is_fair, millis, overtakes) in [(true, 0, 0), (false, 5, 64)] {
+        let builder = Pool::builder().overtake_time(MINUTE).max_overtakes(3);
+        let pool = builder.fair(is_fair).build(Numbers).unwrap();
+        assert_eq!(pool.overtake_time(), Duration::from_millis(millis));
         assert_eq!(pool.max_overtakes(), overtakes);
     }
 }
@@ -348,6 +353,7 @@ fn a_pool_shows_the_defaults() {
     assert_eq!(pool.min_idle(), 0);
     assert!(pool.lifo() && pool.block_when_exhausted());
     assert_eq!(pool.max_wait(), Some(MINUTE / 2));
+    assert_eq!(pool.overtake_time(), Duration::from_millis(5));
     assert_eq!(pool.max_overtakes(), 64);
     assert_eq!(pool.min_evictable_idle(), Some(30 * MINUTE));
     assert_eq!(pool.tests_per_eviction_run(), 3);
