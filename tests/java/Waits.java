@@ -29,6 +29,8 @@ import org.apache.commons.pool2.impl.GenericObjectPoolConfig;
 public final class Waits extends Expectations {
     /** How often a thread waits beside one that borrows again at once. */
     private static final int ROUNDS = 50;
+    /** How often such a thread tries to be faster than one that was woken. */
+    private static final int TRIES = 200;
     /** How often the heap is filled beside threads that call a pool. */
     private static final int FILLS = 10;
     /** How long another thread has to find the lock held. */
@@ -365,13 +367,54 @@ public final class Waits extends Expectations {
             if (most == 3) {
                 pool.setMaxOvertakes(most);
             }
+            expect("the time of overtakes", Duration.ofMillis(most == 0 ? 0 : 5), pool.getOvertakeTime());
             expect("the number of overtakes", most, pool.getMaxOvertakes());
             expect("the fairness", most == 0, pool.getFairness());
+            pool.setOvertakeTime(Duration.ZERO);
             int overtakes = overtakesOf(pool);
             expect("overtaken " + overtakes + " times, " + most + " at most", true, overtakes <= most);
             expect("a negative number", "IllegalArgumentException: maxOvertakes: -1 is negative", ending(() -> pool.setMaxOvertakes(-1)));
             pool.close();
         }
+    }
+
+    /** Sets a time while a thread waits, and returns whether a borrow that does not wait takes then the object that is returned. */
+    private static boolean overtakes(ZuphinkaPool<Object> pool, Duration time) throws Exception {
+        CountDownLatch tried = new CountDownLatch(1);
+        Object[] ending = {null};
+        Object lent = pool.borrowObject();
+        whileWaiting(pool, 1, () -> {
+            Object object = pool.borrowObject();
+            tried.await();
+            pool.returnObject(object);
+            return object;
+        }, () -> {
+            pool.setOvertakeTime(time);
+            pool.returnObject(lent);
+            ending[0] = ending(() -> pool.returnObject(pool.borrowObject(0)));
+            tried.countDown();
+        });
+        return ending[0].equals("done");
+    }
+
+    /** A thread is overtaken until it has waited for the time that is set, also if none may overtake it after that. */
+    private static void overtakingForATime() throws Exception {
+        ZuphinkaPool<Object> pool = pool(1, Journal.dropped());
+        pool.setMaxOvertakes(0);
+        expect("the fairness within a time", false, pool.getFairness());
+        for (Duration time : new Duration[] {Duration.ofHours(1), Duration.ZERO, Duration.ofDays(36_500_000)}) {
+            boolean isOvertaken = false;
+            for (int tried = 0; tried < TRIES && !isOvertaken; tried++) {
+                isOvertaken = overtakes(pool, time);
+            }
+            expect("overtaken within " + time, !time.isZero(), isOvertaken);
+            expect("the time of overtakes", time, pool.getOvertakeTime());
+        }
+        pool.setOvertakeTime(Duration.ofNanos(1_000_001));
+        expect("a time that is rounded up", Duration.ofMillis(2), pool.getOvertakeTime());
+        String negative = "IllegalArgumentException: overtakeTime: PT-1S is negative";
+        expect("a negative time", negative, ending(() -> pool.setOvertakeTime(Duration.ofSeconds(-1))));
+        pool.close();
     }
 
     /** Threads of a fair pool that come one after the other are served in that order. */
@@ -790,6 +833,7 @@ public final class Waits extends Expectations {
         }
         expect("the queue", List.of(), Queueing.faults());
         overtaking();
+        overtakingForATime();
         arrival();
         fullJournal();
         slowSink();

@@ -66,14 +66,12 @@ JNIEXPORT void JNICALL JNI_OnUnload(JavaVM *machine, void *reserved) {
   while (!LIST_EMPTY(&pools)) end(LIST_FIRST(&pools));
 }
 
-/* Opens a pool that works as the flags say, and whose waiters are overtaken at most so often. A call begins only with so many bytes of the stack left.
- * Returns its handle, or a negative status. */
-JNIEXPORT jlong JNICALL Java_io_github_zuphinka_Core_open(JNIEnv *env, jclass class, jbyteArray settings, jint flags, jlong overtakes, jlong stack) {
+/* Opens a pool that works as the flags say, and in which nobody overtakes. A call begins only with so many bytes of the stack left. Returns its handle,
+ * or a negative status. */
+JNIEXPORT jlong JNICALL Java_io_github_zuphinka_Core_open(JNIEnv *env, jclass class, jbyteArray settings, jint flags, jlong stack) {
   (void)class;
-  struct zuphinka_options options = {.max_overtakes = (uint64_t)overtakes,
-                                     .activates = flags & ACTIVATES,
-                                     .validates = flags & VALIDATES,
-                                     .passivates = flags & PASSIVATES};
+  struct zuphinka_options options = {
+      .activates = flags & ACTIVATES, .validates = flags & VALIDATES, .passivates = flags & PASSIVATES};
   jsize length = (*env)->GetArrayLength(env, settings);
   struct pool *pool = calloc(1, sizeof *pool);
   char *text = malloc((size_t)length + 1);
@@ -248,11 +246,12 @@ JNIEXPORT jboolean JNICALL Java_io_github_zuphinka_Core_isLent(JNIEnv *env, jcla
   return is_lent;
 }
 
-/* Sets how often a waiter is overtaken at most. Returns the bound, which is greater while one waits that was overtaken more often. */
-JNIEXPORT jlong JNICALL Java_io_github_zuphinka_Core_setOvertakes(JNIEnv *env, jclass class, jlong handle, jlong most) {
+/* Sets for how many milliseconds a waiter is overtaken without a limit, and how often after that. Returns the bound, which is greater while one waits
+ * that was overtaken more often. */
+JNIEXPORT jlong JNICALL Java_io_github_zuphinka_Core_setOvertakes(JNIEnv *env, jclass class, jlong handle, jlong millis, jlong most) {
   (void)env, (void)class;
   uint64_t bound = (uint64_t)most;
-  zuphinka_set_overtakes(core_at(handle), (uint64_t)most, &bound);
+  zuphinka_set_overtakes(core_at(handle), (uint64_t)millis, (uint64_t)most, &bound);
   return (jlong)bound;
 }
 

@@ -33,7 +33,7 @@ abstract class ConfiguredPool<T> {
      * a file {@code settings-POSITION.toml}. {@link ZuphinkaPool#cut} returns the segment of a journal that is kept.
      *
      * <p>As in {@code GenericObjectPool}, {@code fairness} and the properties of JMX stay those of the constructor; {@link
-     * ZuphinkaPool#setMaxOvertakes} changes the former. A policy is made anew of {@code evictionPolicyClassName}.
+     * ZuphinkaPool#setOvertakeTime} and {@link ZuphinkaPool#setMaxOvertakes} change the former. A policy is made anew of {@code evictionPolicyClassName}.
      *
      * <p>Each setter changes one property in this way, and throws the same.
      *

@@ -151,10 +151,10 @@ final class Core {
     }
 
     /**
-     * Opens a core by the text of its settings, and returns its handle, or a negative status. Waiters are overtaken at most so often. A call begins only
-     * with so many bytes of the stack left. It needs no lock.
+     * Opens a core by the text of its settings, and returns its handle, or a negative status. No waiter is overtaken. A call begins only with so many
+     * bytes of the stack left. It needs no lock.
      */
-    static native long open(byte[] settings, int flags, long overtakes, long stack);
+    static native long open(byte[] settings, int flags, long stack);
 
     /** Goes on with the text of other settings and other {@link #RECLAIMS}, and cuts the journal. Returns 0, or a negative status: nothing changed. */
     static native int reconfigure(long core, byte[] settings, int flags);
@@ -186,8 +186,11 @@ final class Core {
     /** Returns whether the object with this id is lent. */
     static native boolean isLent(long core, long id);
 
-    /** Sets how often a waiter is overtaken at most. Returns the bound, which is greater while one waits that was overtaken more often. */
-    static native long setOvertakes(long core, long most);
+    /**
+     * Sets for how many milliseconds a waiter is overtaken without a limit, and how often after that. Returns the bound, which is greater while one waits
+     * that was overtaken more often.
+     */
+    static native long setOvertakes(long core, long millis, long most);
 
     /** Notes a use of the object with this id, also one at an earlier time than that of other steps. Returns 0 or a negative status. */
     static native int use(long core, long at, long id, int caller);

@@ -11,7 +11,8 @@ import org.apache.commons.pool2.impl.GenericObjectPoolConfig;
 final class CoreSettings<T> {
     /** The longest time that the core takes, in milliseconds: some 285,000 years. */
     static final long MOST_MILLIS = 1L << 53;
-    /** How often a waiter is overtaken at most, unless the pool is told otherwise. */
+    /** For how long a waiter is overtaken without a limit, and how often after that, unless the pool is told otherwise. */
+    static final long DEFAULT_OVERTAKE_MILLIS = 5;
     static final int DEFAULT_OVERTAKES = 64;
     /** The most entries that a journal stores. */
     static final long MOST_ENTRIES = 1L << 32;
@@ -146,7 +147,7 @@ final class CoreSettings<T> {
     }
 
     /** Returns a time in milliseconds, rounded up, since 0 may stand for no time or for no limit; {@code negative} for a negative one. */
-    private static long millis(Duration time, long negative) {
+    static long millis(Duration time, long negative) {
         if (time.isNegative()) {
             return negative;
         }

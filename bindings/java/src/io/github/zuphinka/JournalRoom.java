@@ -7,9 +7,9 @@ import java.nio.ByteOrder;
 final class JournalRoom {
     private JournalRoom() {}
 
-    /** Opens a core by settings, flags and numbers of {@link Core#open}, and returns its handle. */
-    static long open(CoreSettings<?> settings, int flags, long overtakes, long stack) {
-        long opened = Core.open(settings.bytes(), flags, overtakes, stack);
+    /** Opens a core by settings, and by flags and a number of {@link Core#open}, and returns its handle. */
+    static long open(CoreSettings<?> settings, int flags, long stack) {
+        long opened = Core.open(settings.bytes(), flags, stack);
         if (opened == Core.STATUS_OUT_OF_MEMORY) {
             throw new OutOfMemoryError("zuphinka: no memory for a pool");
         }
@@ -35,7 +35,7 @@ final class JournalRoom {
 
     /** Returns how many objects of any number can be lent. The entries of each loan may be cut off before the next. */
     private static long mostLent(CoreSettings<?> settings, boolean isCut) {
-        long core = open(settings, 0, 0, 0);
+        long core = open(settings, 0, 0);
         try {
             long room = roomOf(core);
             if (!lendsOne(core)) {

@@ -39,14 +39,26 @@ final class Numbers {
         return new Metrics(sections.locked(() -> measures.snapshot(label, journal.counts(), wakes.waiters.size())));
     }
 
-    /** Returns how often a thread that waits may be overtaken. */
+    /** Returns for how long, in milliseconds, a thread that waits may be overtaken without a limit. */
+    long overtakeMillis() {
+        return sections.locked(wakes::overtakeMillis);
+    }
+
+    void setOvertakeMillis(long millis) {
+        sections.locked(() -> {
+            wakes.limitOvertakes(millis, wakes.maxOvertakes());
+            return null;
+        });
+    }
+
+    /** Returns how often it may be after that. */
     int maxOvertakes() {
         return sections.locked(wakes::maxOvertakes);
     }
 
     void setMaxOvertakes(int times) {
         sections.locked(() -> {
-            wakes.setMaxOvertakes(times);
+            wakes.limitOvertakes(wakes.overtakeMillis(), times);
             return null;
         });
     }

@@ -49,13 +49,11 @@ final class Sections<T> {
         Callers.load();
         Pauses.load();
         neededStack = NeededStack.bytes();
-        boolean isFair = settings.config.getFairness();
-        int maxOvertakes = isFair ? 0 : CoreSettings.DEFAULT_OVERTAKES;
-        core = JournalRoom.open(settings, work.flags() | settings.flags(), maxOvertakes, neededStack);
+        core = JournalRoom.open(settings, work.flags() | settings.flags(), neededStack);
         Cores.register(this, core);
         details = JournalRoom.detailsOf(core);
         lock = new PoolLock(details);
-        wakes = new Wakes(core, details, isFair, maxOvertakes);
+        wakes = new Wakes(core, details, settings.config.getFairness());
         names = journal.names();
         sink = sinkOf(journal, zero);
         this.journal = new StoredJournal(core, details, journal, sink, settings);

@@ -3,7 +3,7 @@ package io.github.zuphinka;
 import java.nio.ByteBuffer;
 import java.util.concurrent.locks.LockSupport;
 
-/** Whom the sections of a pool wake, and how often those that wait may be overtaken. The caller holds the lock of the pool. */
+/** Whom the sections of a pool wake, and for how long and how often those that wait may be overtaken. The caller holds the lock of the pool. */
 final class Wakes {
     final Waiters waiters = new Waiters();
     private final long core;
@@ -11,25 +11,31 @@ final class Wakes {
     private final boolean isFair;
     /** The thread that is to be unparked once the lock is free; null if there is none. */
     private Thread woken;
-    /** How often a waiter is to be overtaken at most, and the bound that the core has until the waiters who were overtaken more often have left. */
+    /** For how long a waiter is overtaken without a limit. */
+    private long overtakeMillis;
+    /** How often it is to be after that, and the bound that the core has until the waiters who were overtaken more often have left. */
     private int maxOvertakes;
     private long overtakes;
 
-    Wakes(long core, ByteBuffer details, boolean isFair, int maxOvertakes) {
+    Wakes(long core, ByteBuffer details, boolean isFair) {
         this.core = core;
         this.details = details;
         this.isFair = isFair;
-        this.maxOvertakes = maxOvertakes;
-        overtakes = maxOvertakes;
+        limitOvertakes(isFair ? 0 : CoreSettings.DEFAULT_OVERTAKE_MILLIS, isFair ? 0 : CoreSettings.DEFAULT_OVERTAKES);
+    }
+
+    long overtakeMillis() {
+        return overtakeMillis;
     }
 
     int maxOvertakes() {
         return maxOvertakes;
     }
 
-    void setMaxOvertakes(int times) {
+    void limitOvertakes(long millis, int times) {
+        overtakeMillis = millis;
         maxOvertakes = times;
-        overtakes = Core.setOvertakes(core, times);
+        overtakes = Core.setOvertakes(core, millis, times);
     }
 
     boolean hasWoken() {
@@ -47,7 +53,7 @@ final class Wakes {
     void leave(Call<?> call) {
         unpark(waiters.remove(call));
         if (overtakes != maxOvertakes) {
-            setMaxOvertakes(maxOvertakes);
+            limitOvertakes(overtakeMillis, maxOvertakes);
         }
     }
 

@@ -208,8 +208,8 @@ public class ZuphinkaPool<T> extends ConfiguredPool<T> implements ObjectPool<T>,
     /**
      * Lends an object: an idle one, or a new one if there is a free place. Otherwise it waits, as long as the configuration says. Idle objects that
      * fail their activation or their test are destroyed, and the next one is tried. If the configuration says so, it first takes abandoned objects
-     * from their holders. Once the thread that has waited longest was overtaken as often as {@link #setMaxOvertakes} allows, it queues behind that
-     * one, and makes no entry meanwhile.
+     * from their holders. Once the thread that has waited longest was overtaken for as long as {@link #setOvertakeTime} allows, and then as often as
+     * {@link #setMaxOvertakes} allows, it queues behind that one, and makes no entry meanwhile.
      *
      * @return an object that no other caller has, until it is returned, invalidated or abandoned
      * @throws NoSuchElementException if no object and no place is free, and the configuration says not to wait or the time is over: the message has the
@@ -276,16 +276,39 @@ public class ZuphinkaPool<T> extends ConfiguredPool<T> implements ObjectPool<T>,
     }
 
     /**
-     * Sets how often a waiting borrow is overtaken at most: 64 by default, and 0 if the configuration has {@code fairness}. With 0 the pool is
-     * fair. {@code GenericObjectPool} has no limit unless {@code fairness} is set.
+     * Sets how long a borrow waits while any number of later borrows may overtake it: 5 milliseconds by default, and 0 if the configuration has {@code
+     * fairness}. It is rounded up to whole milliseconds.
      *
-     * <p>A later borrow overtakes the oldest waiter if it takes an object or a place, and leaves too few for those who wait. Once the oldest was
-     * overtaken so often, or was woken and found nothing, later borrows queue behind it until it has its object or leaves. A borrow that does not
-     * wait then fails as if nothing were there.
+     * <p>A later borrow overtakes the oldest waiter if it takes an object or a place, and leaves too few for those who wait. Overtaking costs no sleep, so
+     * a long time lends more objects per second where many wait. A short one makes the longest wait shorter.
+     *
+     * @param time a time from 0; not null
+     * @throws IllegalArgumentException if it is negative
+     */
+    public void setOvertakeTime(Duration time) {
+        if (time.isNegative()) {
+            throw new IllegalArgumentException("overtakeTime: " + time + " is negative");
+        }
+        numbers.setOvertakeMillis(CoreSettings.millis(time, 0));
+    }
+
+    /**
+     * Returns how long a borrow waits while any number of later borrows may overtake it.
+     *
+     * @return a time from 0
+     */
+    public Duration getOvertakeTime() {
+        return Duration.ofMillis(numbers.overtakeMillis());
+    }
+
+    /**
+     * Sets how often a borrow is overtaken at most once it has waited for {@link #setOvertakeTime}: 64 by default, and 0 if the configuration has {@code
+     * fairness}. With 0 and no time the pool is fair. {@code GenericObjectPool} has no limit unless {@code fairness} is set.
+     *
+     * <p>Once the oldest waiter was overtaken so often, or has waited for that time, was woken and found nothing, later borrows queue behind it until it
+     * has its object or leaves. A borrow that does not wait then fails as if nothing were there.
      *
      * <p>With {@link Integer#MAX_VALUE} there is no limit, as in {@code GenericObjectPool}, and no borrow queues while there is an object or a place.
-     *
-     * <p>Overtaking costs no sleep, so a high number lends more objects per second where many wait. A low one makes the longest wait shorter.
      *
      * @param times a number from 0
      * @throws IllegalArgumentException if it is negative
@@ -298,7 +321,7 @@ public class ZuphinkaPool<T> extends ConfiguredPool<T> implements ObjectPool<T>,
     }
 
     /**
-     * Returns how often a waiting borrow is overtaken at most.
+     * Returns how often a borrow is overtaken at most once it has waited for {@link #getOvertakeTime}.
      *
      * @return a number from 0
      */
@@ -309,10 +332,10 @@ public class ZuphinkaPool<T> extends ConfiguredPool<T> implements ObjectPool<T>,
     /**
      * Returns whether the pool is fair: no borrow overtakes one that waits.
      *
-     * @return whether {@link #getMaxOvertakes} is 0
+     * @return whether {@link #getOvertakeTime} and {@link #getMaxOvertakes} are 0
      */
     public boolean getFairness() {
-        return getMaxOvertakes() == 0;
+        return getOvertakeTime().isZero() && getMaxOvertakes() == 0;
     }
 
     private T borrow(long longestNanos) throws Exception {
