@@ -8,8 +8,9 @@ final class Call<T> {
     int kind;
     /** The number of its thread in the journal. */
     int caller;
-    /** When it began, by {@link System#nanoTime}. */
+    /** When it began, and when it last read the clock: then, or once its last work was done. By {@link System#nanoTime}. */
     long first;
+    long now;
     /** For how many nanoseconds it waits at most, besides what the core says; and by how many milliseconds it may wait longer than the settings say.
      * They are no less than any time of the settings if the limit is its own. */
     long limitNanos;
@@ -78,10 +79,11 @@ final class Call<T> {
     Call<T> nextKept;
 
     /** Begins anew. What only unusual calls change is as it was at first. */
-    Call<T> begin(int newKind, int number, long now, Member<T> object) {
+    Call<T> begin(int newKind, int number, long nanoTime, Member<T> object) {
         kind = newKind;
         caller = number;
-        first = now;
+        first = nanoTime;
+        now = nanoTime;
         limitNanos = Long.MAX_VALUE;
         moreMillis = 0;
         action = Core.ACTION_GO_ON;

@@ -38,7 +38,7 @@ final class Calls<T> {
                 }
                 call = settling.callOf(reply, caller, first);
                 call.limitTo(limitNanos, moreMillis);
-                Member<T> lent = Core.isPlainWork(reply) ? null : settling.takeUp(call, reply, first);
+                Member<T> lent = Core.isPlainWork(reply) ? null : settling.takeUp(call, reply);
                 if (lent != null) {
                     return lent;
                 }
@@ -93,15 +93,15 @@ final class Calls<T> {
         Member<T> member = call.member;
         call.leave();
         if (error != null) {
-            giveBack(member);
+            giveBack(member, System.nanoTime());
             throw error;
         }
         return isLate && !isStillLent(member) ? null : member;
     }
 
-    /** Returns an object by the settings of the moment. */
-    void giveBack(Member<T> member) {
-        while (!isGivenBack(member, sections.settings())) {
+    /** Returns an object by the settings of the moment, at this time of {@link System#nanoTime}. */
+    void giveBack(Member<T> member, long now) {
+        while (!isGivenBack(member, sections.settings(), now)) {
             // Other settings came between.
         }
     }
@@ -119,12 +119,11 @@ final class Calls<T> {
     }
 
     /**
-     * Returns an object, if the pool still has these settings, and returns whether it had. Its wrapper was told before if the return has no work by
-     * them. One that is too old is not tested or passivated, but invalidated, as far as the core knows.
+     * Returns an object at this time of {@link System#nanoTime}, if the pool still has these settings, and returns whether it had. Its wrapper was told
+     * before if the return has no work by them. One that is too old is not tested or passivated, but invalidated, as far as the core knows.
      */
-    boolean isGivenBack(Member<T> member, CoreSettings<T> of) {
+    boolean isGivenBack(Member<T> member, CoreSettings<T> of, long now) {
         int caller = Callers.number();
-        long now = System.nanoTime();
         int kind = of.isTooOld(member, now) ? Core.KIND_INVALIDATE : Core.KIND_RETURN;
         Call<T> call;
         long reply = sections.begin(kind, caller, now, member.id, member.slot, of.number, false);
@@ -138,7 +137,7 @@ final class Calls<T> {
                 return true;
             }
             call = settling.callOf(member, reply, caller, now);
-            if (!Core.isPlainWork(reply) && settling.takeUp(call, reply, now) != null) {
+            if (!Core.isPlainWork(reply) && settling.takeUp(call, reply) != null) {
                 return true;
             }
         } finally {
@@ -178,7 +177,7 @@ final class Calls<T> {
             sections.see(call.caller);
             long reply = sections.beginWithin(call);
             settling.begin(call, reply);
-            settling.takeUp(call, reply, call.first);
+            settling.takeUp(call, reply);
         } finally {
             sections.release();
         }
@@ -198,7 +197,8 @@ final class Calls<T> {
                 break;
             }
             int report = call.isToGiveUp() ? call.giveUp() : act(call);
-            Member<T> member = advance(call, report);
+            call.now = System.nanoTime();
+            Member<T> member = advance(call, work.tellReturn(call, report));
             if (member != null) {
                 return member;
             }
@@ -227,27 +227,26 @@ final class Calls<T> {
     private Member<T> advance(Call<T> call, int report) {
         boolean isLimited = call.untilMillis < Long.MAX_VALUE;
         int latest = report;
-        long now = System.nanoTime();
         if (isLimited) {
             sections.takeAgain();
-            while (latest != Core.REPORT_GIVEN_UP && isEarly(call, now)) {
+            while (latest != Core.REPORT_GIVEN_UP && isEarly(call)) {
                 sections.release();
                 latest = waited(call, latest);
-                now = System.nanoTime();
+                call.now = System.nanoTime();
                 sections.takeAgain();
             }
         }
-        long reply = sections.advance(call, latest, now, isLimited);
+        long reply = sections.advance(call, latest, isLimited);
         try {
-            return settling.advance(call, latest, reply, now);
+            return settling.advance(call, latest, reply);
         } finally {
             sections.release(reply);
         }
     }
 
     /** Returns whether the wait of a call is over by the milliseconds of the core, and not yet by the clock: for less than a millisecond. */
-    private boolean isEarly(Call<T> call, long now) {
-        return sections.timeOf(now) >= call.untilMillis && call.left(call.untilNanos) > 0;
+    private boolean isEarly(Call<T> call) {
+        return sections.timeOf(call.now) >= call.untilMillis && call.left(call.untilNanos) > 0;
     }
 
     /** Waits until the time of an early call is over. Returns its report. */

@@ -11,6 +11,8 @@ final class Member<T> {
     final long id;
     /** Its wrapper; null until it is made. */
     PooledObject<T> pooled;
+    /** The same if it is told when its object is lent and returned, and reads no clock for that; otherwise null. */
+    TimedObject<T> timed;
     /** By which it is found; null until it is added. */
     Objects.Identity identity;
     /** Whether its wrapper is told of each loan whatever the settings are; and whether it is told of the loan that there is. */
@@ -70,7 +72,17 @@ final class Member<T> {
         isLent = false;
     }
 
-    /** Returns how long its loan is that ends at this time of {@link System#nanoTime}, in nanoseconds. */
+    /** Returns when it was last lent, by {@link System#nanoTime}. The thread that has the object needs no lock. */
+    long lentAt() {
+        return lentAt;
+    }
+
+    /** Returns for how many nanoseconds it was idle before its loan, since its return or since it was made. The same. */
+    long idleNanos() {
+        return Math.max(0, lentAt - (loans > 1 ? returnedAt : madeAt));
+    }
+
+    /** Returns how long its loan is that ends at this time of {@link System#nanoTime}, in nanoseconds. The same. */
     long loanNanos(long nanoTime) {
         return Math.max(0, nanoTime - lentAt);
     }

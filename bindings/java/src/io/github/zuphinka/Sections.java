@@ -182,8 +182,8 @@ final class Sections<T> {
     }
 
     /** Goes on with a call after a report, and takes the lock for that unless it is held. Then it is. */
-    long advance(Call<T> call, int report, long now, boolean isHeld) {
-        long at = millis(now);
+    long advance(Call<T> call, int report, boolean isHeld) {
+        long at = millis(call.now);
         long reply = Core.advance(core, call.progress, at, call.token(), call.caller, report, isHeld);
         if (reply == Core.BUSY) {
             lock.takeLater();

@@ -95,17 +95,17 @@ final class Settling<T> {
     // Reports and replies.
 
     /** Takes up what a call does next after a report. Returns its object as {@link #takeUp} does. */
-    Member<T> advance(Call<T> call, int report, long reply, long now) {
+    Member<T> advance(Call<T> call, int report, long reply) {
         boolean isUsual = !call.isUnusual;
         if (isUsual && Core.isPlainEnd(reply)) {
-            return endAtOnce(call, now);
+            return endAtOnce(call);
         }
         noteReport(call, report);
         if (isUsual && Core.isPlainWork(reply)) {
             call.action = Core.action(reply);
             return null;
         }
-        return takeUp(call, reply, now);
+        return takeUp(call, reply);
     }
 
     /** Notes what a report changes. */
@@ -146,19 +146,19 @@ final class Settling<T> {
      * Takes up what a call does next. Where there is no memory for that, the call is given up. Returns its object if it is over as it should be: then it is
      * kept, and another thread may have it soon. Otherwise null.
      */
-    Member<T> takeUp(Call<T> call, long reply, long now) {
+    Member<T> takeUp(Call<T> call, long reply) {
         call.isUnusual = true;
         try {
-            return takeUpOnce(call, reply, now);
+            return takeUpOnce(call, reply);
         } catch (OutOfMemoryError e) {
             wakes.leave(call);
             wakes.wakeBy(reply);
             call.keepsError(e);
-            return takeUpOnce(call, sections.advance(call, call.giveUp(), now, true), now);
+            return takeUpOnce(call, sections.advance(call, call.giveUp(), true));
         }
     }
 
-    private Member<T> takeUpOnce(Call<T> call, long reply, long now) {
+    private Member<T> takeUpOnce(Call<T> call, long reply) {
         call.action = Core.action(reply);
         call.end = Core.end(reply);
         if (call.action == Core.ACTION_SLEEP) {
@@ -170,16 +170,16 @@ final class Settling<T> {
         prepare(call, reply);
         noteEndOfLoan(call);
         if (call.isDone()) {
-            noteEnd(call, now);
+            noteEnd(call);
         }
         wakes.wakeBy(reply);
         return call.isPlain() ? keep(call) : null;
     }
 
     /** Ends a call at once that has worked on one object alone. Returns that: it is lent, or idle. */
-    Member<T> endAtOnce(Call<T> call, long now) {
+    private Member<T> endAtOnce(Call<T> call) {
         if (call.kind == Core.KIND_BORROW) {
-            measures.lend(call.member, now, now - call.first);
+            measures.lend(call.member, call.now, call.now - call.first);
         }
         return keep(call);
     }
@@ -274,16 +274,16 @@ final class Settling<T> {
     }
 
     /** Notes the end of a call. A closed pool is closed, whatever a call lacks. */
-    private void noteEnd(Call<T> call, long now) {
+    private void noteEnd(Call<T> call) {
         boolean lacks = call.end == Core.END_JOURNAL_FULL || call.end == Core.END_OUT_OF_MEMORY;
         if (lacks && sections.isClosed() && call.needsOpenPool()) {
             call.end = Core.END_CLOSED;
         }
         if (call.end == Core.END_LENT) {
-            measures.lend(call.member, now, now - call.first);
+            measures.lend(call.member, call.now, call.now - call.first);
         }
         if (call.end == Core.END_NOTED) {
-            call.member.use(now);
+            call.member.use(call.now);
         }
         boolean isTimedOut = call.end == Core.END_TIMED_OUT || call.end == Core.END_CANCELLED;
         if (call.kind == Core.KIND_BORROW && (isTimedOut || call.end == Core.END_EXHAUSTED)) {

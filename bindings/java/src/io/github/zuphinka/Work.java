@@ -124,7 +124,7 @@ final class Work<T> {
             case Core.ACTION_VALIDATE:
                 return validate(call);
             case Core.ACTION_PASSIVATE:
-                passivate(call);
+                factory.passivateObject(call.member.pooled);
                 return Core.REPORT_SUCCEEDED;
             default:
                 destroy(call);
@@ -221,7 +221,9 @@ final class Work<T> {
             member.pooled.setLogAbandoned(true);
             member.pooled.setRequireFullStackTrace(abandoned.getRequireFullStackTrace());
         }
-        member.isWrapperTold = !isWrapperUnseen || isTracked || member.pooled.getClass() != DefaultPooledObject.class;
+        boolean isOrdinary = member.pooled.getClass() == DefaultPooledObject.class || member.pooled.getClass() == TimedObject.class;
+        member.isWrapperTold = !isWrapperUnseen || isTracked || !isOrdinary;
+        member.timed = isOrdinary && member.pooled instanceof TimedObject ? (TimedObject<T>) member.pooled : null;
         if (isTracked) {
             hasTracked = true; // another thread may have set it meanwhile
         }
@@ -231,7 +233,7 @@ final class Work<T> {
     /** Tells the wrapper of a new object that this is lent, in place of an activation. */
     private void tellNew(Member<T> member) {
         try {
-            tellLoan(member);
+            tellLoan(member, member.madeAt);
         } catch (Exception e) {
             throw none("Unable to activate object", e);
         }
@@ -248,48 +250,60 @@ final class Work<T> {
     private void activate(Call<T> call) throws Exception {
         call.isActivated = true;
         if (call.kind == Core.KIND_BORROW) {
-            tellLoan(call.member);
+            tellLoan(call.member, call.now);
         }
         factory.activateObject(call.member.pooled);
     }
 
     private int validate(Call<T> call) {
         if (call.kind == Core.KIND_BORROW && call.isActivated) {
-            tellLoan(call.member);
+            tellLoan(call.member, call.now);
         }
         if (!factory.validateObject(call.member.pooled)) {
             call.fault = INVALID;
             return Core.REPORT_FAILED;
         }
         if (call.kind == Core.KIND_BORROW && !activates) {
-            tellLoan(call.member);
-        }
-        if (call.kind == Core.KIND_RETURN && !passivates) {
-            tellReturn(call.member);
+            tellLoan(call.member, System.nanoTime());
         }
         return Core.REPORT_SUCCEEDED;
     }
 
-    private void passivate(Call<T> call) throws Exception {
-        factory.passivateObject(call.member.pooled);
-        if (call.kind == Core.KIND_RETURN) {
-            tellReturn(call.member);
-        }
-    }
-
-    /** Tells a wrapper that its object is lent, unless it was told, or none need be. */
-    void tellLoan(Member<T> member) {
+    /** Tells a wrapper that its object is lent since a time of {@link System#nanoTime}, unless it was told, or none need be. */
+    void tellLoan(Member<T> member, long nanoTime) {
         if (!member.isLoanTold && (member.isWrapperTold || !isWrapperUnseen)) {
             member.isLoanTold = true;
-            member.pooled.allocate();
+            if (member.timed == null) {
+                member.pooled.allocate();
+            } else {
+                member.timed.allocate(nanoTime);
+            }
         }
     }
 
-    /** Tells a wrapper that its object is returned, if it was told that it is lent. */
-    void tellReturn(Member<T> member) {
+    /** Tells a wrapper that its object is returned at a time of {@link System#nanoTime}, if it was told that it is lent. */
+    void tellReturn(Member<T> member, long nanoTime) {
         if (member.isLoanTold) {
             member.isLoanTold = false;
-            member.pooled.deallocate();
+            if (member.timed == null) {
+                member.pooled.deallocate();
+            } else {
+                member.timed.deallocate(nanoTime);
+            }
+        }
+    }
+
+    /** Does the same once the last work of a return is done, before another thread may have the object. Returns the report, also of a failure in that. */
+    int tellReturn(Call<T> call, int report) {
+        boolean isLast = call.action == Core.ACTION_PASSIVATE || call.action == Core.ACTION_VALIDATE && !passivates;
+        if (call.kind != Core.KIND_RETURN || !isLast || report != Core.REPORT_SUCCEEDED) {
+            return report;
+        }
+        try {
+            tellReturn(call.member, call.now);
+            return report;
+        } catch (Throwable e) {
+            return failed(call, e);
         }
     }
 

@@ -344,15 +344,34 @@ public class ZuphinkaPool<T> extends ConfiguredPool<T> implements ObjectPool<T>,
             Member<T> member = calls.borrow(first, longestNanos);
             if (isTold(member)) {
                 leaks.noteLoan(member);
+                tellLent(member, first);
                 return member.pooled.getObject();
             }
         }
     }
 
+    private void tellLent(Member<T> member, long first) {
+        try {
+            lent(member.pooled, member.lentAt() - first, member.idleNanos());
+        } catch (Throwable e) {
+            swallow(e); // the caller is to have the object
+        }
+    }
+
+    /**
+     * Receives each loan, at the end of its borrow and in its thread. It does nothing. Override it to count them. What it throws is passed to {@link
+     * #swallowed}, and the object is lent.
+     *
+     * @param wrapper that of the object
+     * @param waitedNanos how long the borrow took, in nanoseconds: its wait, and the calls of the factory
+     * @param idleNanos for how long the object was idle before, since its return or since it was made
+     */
+    protected void lent(PooledObject<T> wrapper, long waitedNanos, long idleNanos) {}
+
     /** Tells the wrapper of an object that it is lent. If that fails the object is destroyed, and this returns false. */
     private boolean isTold(Member<T> member) throws Exception {
         try {
-            work.tellLoan(member);
+            work.tellLoan(member, member.lentAt());
             calls.uses.remember(member);
             return true;
         } catch (Throwable e) {
@@ -368,7 +387,7 @@ public class ZuphinkaPool<T> extends ConfiguredPool<T> implements ObjectPool<T>,
             invalidateQuietly(member);
         } catch (OutOfMemoryError e) {
             if (!member.isGone) {
-                calls.giveBack(member);
+                calls.giveBack(member, System.nanoTime());
             }
             throw e;
         }
@@ -401,28 +420,42 @@ public class ZuphinkaPool<T> extends ConfiguredPool<T> implements ObjectPool<T>,
      */
     @Override
     public void returnObject(T object) {
+        giveBack(object);
+    }
+
+    /**
+     * Does the same, and returns how long the loan was.
+     *
+     * @param object a lent object
+     * @return nanoseconds from 0; negative if the object is no longer of the pool
+     * @throws IllegalStateException as {@link #returnObject}
+     */
+    protected long giveBack(T object) {
         Member<T> member = objects.find(object);
         if (member == null) {
             missing("Returned object not currently part of this pool");
-            return;
+            return -1;
         }
         Leaks.forget(member);
-        while (!isReturned(member, settings())) {
+        long now = System.nanoTime();
+        long nanos = member.loanNanos(now);
+        while (!isReturned(member, settings(), now)) {
             // Other settings came between.
         }
         storing.storeDue();
+        return nanos;
     }
 
     /** Returns an object by these settings, if the pool still has them. Returns whether it had; or true if the object is destroyed. */
-    private boolean isReturned(Member<T> member, CoreSettings<T> of) {
-        boolean isDestroyed = work.isReturnedBare(of) && !isToldOfReturn(member);
-        return isDestroyed || calls.isGivenBack(member, of);
+    private boolean isReturned(Member<T> member, CoreSettings<T> of, long now) {
+        boolean isDestroyed = work.isReturnedBare(of) && !isToldOfReturn(member, now);
+        return isDestroyed || calls.isGivenBack(member, of, now);
     }
 
     /** Tells the wrapper of an object that it is returned, before another thread may have it. If that fails it is destroyed, and this returns false. */
-    private boolean isToldOfReturn(Member<T> member) {
+    private boolean isToldOfReturn(Member<T> member, long now) {
         try {
-            work.tellReturn(member);
+            work.tellReturn(member, now);
             return true;
         } catch (Throwable e) {
             invalidateQuietly(member);
