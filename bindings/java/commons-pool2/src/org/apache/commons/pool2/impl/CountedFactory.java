@@ -13,6 +13,7 @@ class CountedFactory<T> extends BasePooledObjectFactory<T> {
     final PooledObjectFactory<T> factory;
     private final GenericObjectPool<T> pool;
     private final AtomicLong making = new AtomicLong();
+    private volatile boolean hasOwnWrappers;
     /** What the eviction run of a thread throws at its end. */
     private final ThreadLocal<EvictionFailure> failures = new ThreadLocal<>();
     /** What the factory last threw in a thread in place of an object, if it may look like an exception of the pool. */
@@ -70,12 +71,22 @@ class CountedFactory<T> extends BasePooledObjectFactory<T> {
         return making.get();
     }
 
+    /** Returns whether some wrapper is of another class than the library's, and may know other times than the pool. */
+    boolean hasOwnWrappers() {
+        return hasOwnWrappers;
+    }
+
     @Override
     public PooledObject<T> makeObject() throws Exception {
         making.incrementAndGet();
         try {
             PooledObject<T> made = factory.makeObject();
-            pool.createdCount.addAndGet(made == null ? 0 : 1);
+            if (made != null) {
+                pool.createdCount.incrementAndGet();
+            }
+            if (made != null && made.getClass() != DefaultPooledObject.class) {
+                hasOwnWrappers = true; // another thread may have set it meanwhile
+            }
             return made;
         } catch (NoSuchElementException | IllegalStateException | InterruptedException e) {
             notMade.set(new WeakReference<>(e));

@@ -2,6 +2,7 @@ package org.apache.commons.pool2.impl;
 
 import io.github.zuphinka.Leak;
 import io.github.zuphinka.Metrics;
+import io.github.zuphinka.TimedObject;
 import io.github.zuphinka.ZuphinkaPool;
 import java.nio.file.Path;
 import java.time.Duration;
@@ -41,6 +42,21 @@ public class GenericObjectPool<T> extends BaseGenericObjectPool<T> implements Ob
     private static final String NUMBERS = ": pool ";
     /** The other messages of borrows that got no object. */
     private static final Set<String> MESSAGES = Set.of("Unable to activate object", "Unable to validate object");
+
+    /** Stands for an object that was idle for a time, as the library counts that. */
+    private static final class Idle<T> extends TimedObject<T> {
+        private final Duration idle;
+
+        Idle(long nanos) {
+            super(null, 0);
+            idle = Duration.ofNanos(nanos);
+        }
+
+        @Override
+        public Duration getIdleDuration() {
+            return idle;
+        }
+    }
 
     private final PooledObjectFactory<T> factory;
     private final CountedFactory<T> counted;
@@ -123,14 +139,11 @@ public class GenericObjectPool<T> extends BaseGenericObjectPool<T> implements Ob
      * @throws Exception as {@link #borrowObject()}
      */
     public T borrowObject(Duration borrowMaxWaitDuration) throws Exception {
-        long first = System.nanoTime();
         assertOpen();
         pool.update();
         boolean blocks = pool.blocks; // to the end of this borrow
         try {
-            T object = pool.borrowObject(blocks ? borrowMaxWaitDuration : Duration.ZERO);
-            noteLoan(object, System.nanoTime() - first);
-            return object;
+            return pool.borrowObject(blocks ? borrowMaxWaitDuration : Duration.ZERO);
         } catch (NoSuchElementException e) {
             throw counted.isOfMake(e) ? e : none(e, blocks ? borrowMaxWaitDuration : null);
         } catch (InterruptedException e) {
@@ -164,16 +177,10 @@ public class GenericObjectPool<T> extends BaseGenericObjectPool<T> implements Ob
         }
     }
 
-    /** Counts a loan, unless its object was reclaimed at once. If there is no memory its times are missing: the caller is to have the object. */
-    private void noteLoan(T object, long nanos) {
-        try {
-            PooledObject<T> pooled = pool.wrapperOf(object);
-            if (pooled != null) {
-                updateStatsBorrow(pooled, Duration.ofMillis(TimeUnit.NANOSECONDS.toMillis(nanos)));
-            }
-        } catch (OutOfMemoryError e) {
-            // The object is lent.
-        }
+    /** Counts a loan: how long its borrow took, and for how long the object was idle, unless a wrapper of the user's own class knows that. */
+    void noteLoan(PooledObject<T> pooled, long waitedNanos, long idleNanos) {
+        boolean isOwn = pooled.getClass() != DefaultPooledObject.class;
+        updateStatsBorrow(isOwn ? pooled : new Idle<>(idleNanos), Duration.ofMillis(TimeUnit.NANOSECONDS.toMillis(waitedNanos)));
     }
 
     /** Returns the exception of a borrow that got no object, with the message of the library. Without a longest wait it may not wait. */
@@ -209,21 +216,18 @@ public class GenericObjectPool<T> extends BaseGenericObjectPool<T> implements Ob
      */
     @Override
     public void returnObject(T obj) {
-        PooledObject<T> pooled = getPooledObject(obj);
-        if (pooled == null) {
-            missing("Returned object not currently part of this pool");
-            return;
-        }
-        Duration active = pooled.getActiveDuration();
         pool.updateQuietly();
-        pool.returnObject(obj);
-        updateStatsReturn(active);
+        Duration active = counted.hasOwnWrappers() ? activeDuration(obj) : null;
+        long nanos = pool.giveBack(obj);
+        if (nanos >= 0) {
+            updateStatsReturn(active == null ? Duration.ofNanos(nanos) : active);
+        }
     }
 
-    private void missing(String message) {
-        if (!isAbandonedConfig()) {
-            throw new IllegalStateException(message);
-        }
+    /** Returns how long an object has been lent, as its wrapper knows it; null if it is not of the pool. */
+    private Duration activeDuration(T object) {
+        PooledObject<T> pooled = getPooledObject(object);
+        return pooled == null ? null : pooled.getActiveDuration();
     }
 
     /**
@@ -241,19 +245,10 @@ public class GenericObjectPool<T> extends BaseGenericObjectPool<T> implements Ob
     /** Does the same, and passes a mode on to the factory. */
     @Override
     public void invalidateObject(T obj, DestroyMode destroyMode) throws Exception {
-        if (getPooledObject(obj) == null) {
-            missing("Invalidated object not currently part of this pool");
-            return;
-        }
         pool.updateQuietly();
         pool.invalidateObject(obj, destroyMode);
     }
 
-    /**
-     * Notes that its holder uses a lent object now, if the settings track usage. Otherwise it has no effect, nor on an object that is not of this pool.
-     *
-     * @param pooledObject a lent object
-     */
     @Override
     public void use(T pooledObject) {
         pool.updateQuietly();
@@ -262,12 +257,6 @@ public class GenericObjectPool<T> extends BaseGenericObjectPool<T> implements Ob
 
     // Upkeep.
 
-    /**
-     * Makes one more idle object, if there is a free place. One that fails its test is destroyed, without an exception.
-     *
-     * @throws IllegalStateException if the pool is closed
-     * @throws Exception if the factory fails to make or to passivate it, or its test throws; the same exception. Its place is free
-     */
     @Override
     public void addObject() throws Exception {
         assertOpen();
@@ -315,7 +304,6 @@ public class GenericObjectPool<T> extends BaseGenericObjectPool<T> implements Ob
         }
     }
 
-    /** Destroys all idle objects, except those under an idle test. What the factory throws is passed to the listener of swallowed exceptions. */
     @Override
     public void clear() {
         pool.updateQuietly();
@@ -384,11 +372,6 @@ public class GenericObjectPool<T> extends BaseGenericObjectPool<T> implements Ob
         });
     }
 
-    /**
-     * Returns the number of idle objects from which on a returned object is destroyed.
-     *
-     * @return a number of objects; negative: no limit
-     */
     @Override
     public int getMaxIdle() {
         return maxIdle;
@@ -403,11 +386,6 @@ public class GenericObjectPool<T> extends BaseGenericObjectPool<T> implements Ob
         this.maxIdle = maxIdle;
     }
 
-    /**
-     * Returns the number of idle objects that maintenance keeps.
-     *
-     * @return a number of objects, and {@code maxIdle} at most if that is a limit
-     */
     @Override
     public int getMinIdle() {
         return maxIdle < 0 ? minIdle : Math.min(minIdle, maxIdle);
@@ -431,11 +409,6 @@ public class GenericObjectPool<T> extends BaseGenericObjectPool<T> implements Ob
         return factory;
     }
 
-    /**
-     * Returns the names of the factory's class and of the type of its objects.
-     *
-     * @return a text such as {@code org.example.Factory<org.example.Connection>}
-     */
     @Override
     public String getFactoryType() {
         if (factoryType == null) {
@@ -458,21 +431,11 @@ public class GenericObjectPool<T> extends BaseGenericObjectPool<T> implements Ob
         return pool.getNumActive();
     }
 
-    /**
-     * Returns the number of idle objects, including those under an idle test.
-     *
-     * @return a number from 0
-     */
     @Override
     public int getNumIdle() {
         return pool.getNumIdle();
     }
 
-    /**
-     * Returns the number of threads that wait for an object.
-     *
-     * @return a number from 0
-     */
     @Override
     public int getNumWaiters() {
         return pool.getNumWaiters();
@@ -553,11 +516,6 @@ public class GenericObjectPool<T> extends BaseGenericObjectPool<T> implements Ob
         return super.getStatsString() + made + String.format(", maxIdle=%,d, minIdle=%,d", maxIdle, minIdle);
     }
 
-    /**
-     * Appends the settings and the numbers of objects.
-     *
-     * @param builder what they are appended to
-     */
     @Override
     protected void toStringAppendFields(StringBuilder builder) {
         super.toStringAppendFields(builder);

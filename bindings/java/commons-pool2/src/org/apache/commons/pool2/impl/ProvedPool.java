@@ -14,7 +14,8 @@ final class ProvedPool<T> extends ZuphinkaPool<T> {
 
     private final GenericObjectPool<T> owner;
     private final CountedFactory<T> factory;
-    /** That of the owner when its settings were last taken over. It has another one each time that it is set. */
+    /** The settings of the owner when they were last taken over. Of that for abandoned objects it has another one each time that it is set. */
+    private volatile GenericObjectPoolConfig<T> known;
     private volatile AbandonedConfig abandoned;
     /** Whether a borrow waits that begins now: no setting of the pool below, as it holds to the end of a borrow. */
     volatile boolean blocks;
@@ -24,9 +25,14 @@ final class ProvedPool<T> extends ZuphinkaPool<T> {
     private int setters;
 
     ProvedPool(GenericObjectPool<T> owner, CountedFactory<T> factory) {
-        super(factory, settingsOf(owner), null, journal(owner));
+        this(owner, factory, settingsOf(owner));
+    }
+
+    private ProvedPool(GenericObjectPool<T> owner, CountedFactory<T> factory, GenericObjectPoolConfig<T> config) {
+        super(factory, config, null, journal(owner));
         this.owner = owner;
         this.factory = factory;
+        known = config;
         blocks = owner.getBlockWhenExhausted();
     }
 
@@ -75,28 +81,29 @@ final class ProvedPool<T> extends ZuphinkaPool<T> {
     }
 
     private boolean isUpToDate() {
-        return hasLimitsOfOwner() && hasTestsOfOwner()
+        GenericObjectPoolConfig<T> some = known;
+        return hasLimits(some) && hasTests(some)
                 && blocks == owner.getBlockWhenExhausted()
-                && getLifo() == owner.getLifo()
+                && some.getLifo() == owner.getLifo()
                 && abandoned == owner.abandonedConfig;
     }
 
-    private boolean hasLimitsOfOwner() {
-        return getMaxIdle() == owner.getMaxIdle()
-                && getMaxTotal() == owner.getMaxTotal()
-                && getMinIdle() == owner.getMinIdle()
-                && getMaxWaitDuration().equals(owner.getMaxWaitDuration())
-                && getMinEvictableIdleDuration().equals(owner.getMinEvictableIdleDuration())
-                && getSoftMinEvictableIdleDuration().equals(owner.getSoftMinEvictableIdleDuration());
+    private boolean hasLimits(GenericObjectPoolConfig<T> some) {
+        return some.getMaxIdle() == owner.getMaxIdle()
+                && some.getMaxTotal() == owner.getMaxTotal()
+                && some.getMinIdle() == owner.getMinIdle()
+                && some.getMaxWaitDuration().equals(owner.getMaxWaitDuration())
+                && some.getMinEvictableIdleDuration().equals(owner.getMinEvictableIdleDuration())
+                && some.getSoftMinEvictableIdleDuration().equals(owner.getSoftMinEvictableIdleDuration());
     }
 
-    private boolean hasTestsOfOwner() {
-        return getTestOnBorrow() == owner.getTestOnBorrow()
-                && getTestOnCreate() == owner.getTestOnCreate()
-                && getTestOnReturn() == owner.getTestOnReturn()
-                && getTestWhileIdle() == owner.getTestWhileIdle()
-                && getNumTestsPerEvictionRun() == owner.getNumTestsPerEvictionRun()
-                && ToldPolicy.inside(getEvictionPolicy()) == owner.getEvictionPolicy();
+    private boolean hasTests(GenericObjectPoolConfig<T> some) {
+        return some.getTestOnBorrow() == owner.getTestOnBorrow()
+                && some.getTestOnCreate() == owner.getTestOnCreate()
+                && some.getTestOnReturn() == owner.getTestOnReturn()
+                && some.getTestWhileIdle() == owner.getTestWhileIdle()
+                && some.getNumTestsPerEvictionRun() == owner.getNumTestsPerEvictionRun()
+                && ToldPolicy.inside(some.getEvictionPolicy()) == owner.getEvictionPolicy();
     }
 
     /** Takes the settings of the owner over, if they changed. */
@@ -125,10 +132,12 @@ final class ProvedPool<T> extends ZuphinkaPool<T> {
         if (setters > 0) {
             return;
         }
-        AbandonedConfig latest = owner.abandonedConfig;
+        GenericObjectPoolConfig<T> latest = settingsOf(owner);
+        AbandonedConfig latestAbandoned = owner.abandonedConfig;
         boolean latestBlocks = owner.getBlockWhenExhausted();
-        reconfigure(settingsOf(owner), latest);
-        abandoned = latest;
+        reconfigure(latest, latestAbandoned);
+        known = latest;
+        abandoned = latestAbandoned;
         blocks = latestBlocks;
     }
 
@@ -144,6 +153,16 @@ final class ProvedPool<T> extends ZuphinkaPool<T> {
     @Override
     public PooledObject<T> wrapperOf(T object) {
         return super.wrapperOf(object);
+    }
+
+    @Override
+    public long giveBack(T object) {
+        return super.giveBack(object);
+    }
+
+    @Override
+    protected void lent(PooledObject<T> wrapper, long waitedNanos, long idleNanos) {
+        owner.noteLoan(wrapper, waitedNanos, idleNanos);
     }
 
     @Override
