@@ -40,7 +40,7 @@ CUT = 50
 EXITS = ("close", "exit", "main", "killed")
 SEEDS, MILLIS = range(8), 700
 # Test programs that need nothing but the library, and a new folder or none.
-OVER_FOLDERS, PROGRAMS = ("Policies", "Measures", "Reconfigures", "Flushes", "Lifetimes"), ("Errors", "Waits", "LostPlaces", "Overdue")
+OVER_FOLDERS, PROGRAMS = ("Policies", "Measures", "Reconfigures", "Flushes", "Lifetimes"), ("Errors", "Waits", "LostPlaces", "Overdue", "Wrappers")
 # How many borrows tests/java/Measures.java makes while it reads metrics, and the names of its pools.
 MEASURED, NAMES = 80_000, ["a", 'say "b\\"\nc']
 # The functions that the native library calls and tests/refuse_java.c wraps.
