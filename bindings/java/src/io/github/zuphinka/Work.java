@@ -9,7 +9,6 @@ import org.apache.commons.pool2.PooledObject;
 import org.apache.commons.pool2.PooledObjectFactory;
 import org.apache.commons.pool2.TrackedUse;
 import org.apache.commons.pool2.impl.AbandonedConfig;
-import org.apache.commons.pool2.impl.DefaultPooledObject;
 
 /** The work of the factory on the objects of a pool, as its calls are asked for it. It runs without the lock of the pool. */
 final class Work<T> {
@@ -19,6 +18,8 @@ final class Work<T> {
     private final PooledObjectFactory<T> factory;
     private final Objects<T> objects;
     private final Consumer<Throwable> swallowing;
+    final Wrappers<T> wrappers = new Wrappers<>();
+    private final Destructions<T> destructions;
     /** Whether the factory has work to activate and to passivate an object. */
     final boolean activates;
     private final boolean passivates;
@@ -27,8 +28,6 @@ final class Work<T> {
     private final boolean destroys;
     /** The settings of the moment. They change with the lock of the pool. */
     private volatile CoreSettings<T> settings;
-    /** Whether no method of the factory sees a wrapper after the object's first loan. */
-    private volatile boolean isWrapperUnseen;
     /** Whether some object says itself when it was last used. */
     private volatile boolean hasTracked;
 
@@ -44,6 +43,7 @@ final class Work<T> {
         this.factory = factory;
         this.objects = objects;
         this.swallowing = swallowing;
+        destructions = new Destructions<>(factory, objects, this::swallow);
         activates = !inherits("activateObject", PooledObject.class);
         passivates = !inherits("passivateObject", PooledObject.class);
         validates = !inherits("validateObject", PooledObject.class);
@@ -53,8 +53,8 @@ final class Work<T> {
 
     /** Goes on with other settings. */
     void use(CoreSettings<T> next) {
-        isWrapperUnseen = !activates && !next.testOnBorrow && isReturnedBare(next) && !next.canBeAbandoned() && next.policy == null
-                && !(next.testWhileIdle && validates) && !destroys;
+        wrappers.setUnseen(!activates && !next.testOnBorrow && isReturnedBare(next) && !next.canBeAbandoned() && next.policy == null
+                && !(next.testWhileIdle && validates) && !destroys);
         settings = next;
     }
 
@@ -127,7 +127,7 @@ final class Work<T> {
                 factory.passivateObject(call.member.pooled);
                 return Core.REPORT_SUCCEEDED;
             default:
-                destroy(call);
+                destructions.destroy(call);
                 return Core.REPORT_SUCCEEDED;
         }
     }
@@ -179,7 +179,7 @@ final class Work<T> {
     /** After some work was reported: destroys what the call reclaimed, and tells the failures that no call throws. */
     void settle(Call<T> call) {
         if (call.reclaimed != null) {
-            discardAbandoned(call);
+            destructions.destroyReclaimed(call, settings.abandoned);
         }
         boolean isTold = call.kind == Core.KIND_RETURN || call.kind == Core.KIND_EVICT;
         if (isTold && call.action != Core.ACTION_DESTROY) {
@@ -206,7 +206,7 @@ final class Work<T> {
                 tellNew(member);
             }
         } catch (Throwable e) {
-            discardQuietly(member);
+            destructions.destroyQuietly(member);
             throw e;
         }
         if (!isAdded) {
@@ -221,9 +221,7 @@ final class Work<T> {
             member.pooled.setLogAbandoned(true);
             member.pooled.setRequireFullStackTrace(abandoned.getRequireFullStackTrace());
         }
-        boolean isOrdinary = member.pooled.getClass() == DefaultPooledObject.class || member.pooled.getClass() == TimedObject.class;
-        member.isWrapperTold = !isWrapperUnseen || isTracked || !isOrdinary;
-        member.timed = isOrdinary && member.pooled instanceof TimedObject ? (TimedObject<T>) member.pooled : null;
+        wrappers.add(member, isTracked);
         if (isTracked) {
             hasTracked = true; // another thread may have set it meanwhile
         }
@@ -233,7 +231,7 @@ final class Work<T> {
     /** Tells the wrapper of a new object that this is lent, in place of an activation. */
     private void tellNew(Member<T> member) {
         try {
-            tellLoan(member, member.madeAt);
+            wrappers.tellLoan(member, member.madeAt);
         } catch (Exception e) {
             throw none("Unable to activate object", e);
         }
@@ -250,111 +248,39 @@ final class Work<T> {
     private void activate(Call<T> call) throws Exception {
         call.isActivated = true;
         if (call.kind == Core.KIND_BORROW) {
-            tellLoan(call.member, call.now);
+            wrappers.tellLoan(call.member, call.now);
         }
         factory.activateObject(call.member.pooled);
     }
 
     private int validate(Call<T> call) {
         if (call.kind == Core.KIND_BORROW && call.isActivated) {
-            tellLoan(call.member, call.now);
+            wrappers.tellLoan(call.member, call.now);
         }
         if (!factory.validateObject(call.member.pooled)) {
             call.fault = INVALID;
             return Core.REPORT_FAILED;
         }
         if (call.kind == Core.KIND_BORROW && !activates) {
-            tellLoan(call.member, System.nanoTime());
+            wrappers.tellLoan(call.member, System.nanoTime());
         }
         return Core.REPORT_SUCCEEDED;
     }
 
-    /** Tells a wrapper that its object is lent since a time of {@link System#nanoTime}, unless it was told, or none need be. */
-    void tellLoan(Member<T> member, long nanoTime) {
-        if (!member.isLoanTold && (member.isWrapperTold || !isWrapperUnseen)) {
-            member.isLoanTold = true;
-            if (member.timed == null) {
-                member.pooled.allocate();
-            } else {
-                member.timed.allocate(nanoTime);
-            }
-        }
-    }
-
-    /** Tells a wrapper that its object is returned at a time of {@link System#nanoTime}, if it was told that it is lent. */
-    void tellReturn(Member<T> member, long nanoTime) {
-        if (member.isLoanTold) {
-            member.isLoanTold = false;
-            if (member.timed == null) {
-                member.pooled.deallocate();
-            } else {
-                member.timed.deallocate(nanoTime);
-            }
-        }
-    }
-
-    /** Does the same once the last work of a return is done, before another thread may have the object. Returns the report, also of a failure in that. */
+    /**
+     * Tells the wrapper of a returned object, once the last work of the return is done, before another thread may have it. Returns the report, also of a
+     * failure in that.
+     */
     int tellReturn(Call<T> call, int report) {
         boolean isLast = call.action == Core.ACTION_PASSIVATE || call.action == Core.ACTION_VALIDATE && !passivates;
         if (call.kind != Core.KIND_RETURN || !isLast || report != Core.REPORT_SUCCEEDED) {
             return report;
         }
         try {
-            tellReturn(call.member, call.now);
+            wrappers.tellReturn(call.member, call.now);
             return report;
         } catch (Throwable e) {
             return failed(call, e);
-        }
-    }
-
-    // Destructions.
-
-    private void destroy(Call<T> call) throws Exception {
-        if (!call.member.isGone) {
-            call.member.isGone = true;
-            discard(call.member, call.mode);
-        }
-    }
-
-    private void discard(Member<T> member, DestroyMode mode) throws Exception {
-        try {
-            objects.remove(member);
-            member.pooled.invalidate();
-        } finally {
-            factory.destroyObject(member.pooled, mode);
-        }
-    }
-
-    /** Destroys an object that has no place, whatever the factory throws. */
-    private void discardQuietly(Member<T> member) {
-        try {
-            discard(member, DestroyMode.NORMAL);
-        } catch (Throwable e) {
-            swallow(e);
-        }
-    }
-
-    private void discardAbandoned(Call<T> call) {
-        for (Member<T> member = call.reclaimed; member != null; member = member.next) {
-            try {
-                discardAbandoned(member);
-            } catch (Throwable e) {
-                if (!call.keepsError(e)) {
-                    swallow(e);
-                }
-            }
-        }
-        call.reclaimed = null;
-    }
-
-    private void discardAbandoned(Member<T> member) throws Exception {
-        AbandonedConfig abandoned = settings.abandoned;
-        try {
-            if (abandoned != null && abandoned.getLogAbandoned()) {
-                member.pooled.printStackTrace(abandoned.getLogWriter());
-            }
-        } finally {
-            discard(member, DestroyMode.ABANDONED);
         }
     }
 }

@@ -371,7 +371,7 @@ public class ZuphinkaPool<T> extends ConfiguredPool<T> implements ObjectPool<T>,
     /** Tells the wrapper of an object that it is lent. If that fails the object is destroyed, and this returns false. */
     private boolean isTold(Member<T> member) throws Exception {
         try {
-            work.tellLoan(member, member.lentAt());
+            work.wrappers.tellLoan(member, member.lentAt());
             calls.uses.remember(member);
             return true;
         } catch (Throwable e) {
@@ -455,7 +455,7 @@ public class ZuphinkaPool<T> extends ConfiguredPool<T> implements ObjectPool<T>,
     /** Tells the wrapper of an object that it is returned, before another thread may have it. If that fails it is destroyed, and this returns false. */
     private boolean isToldOfReturn(Member<T> member, long now) {
         try {
-            work.tellReturn(member, now);
+            work.wrappers.tellReturn(member, now);
             return true;
         } catch (Throwable e) {
             invalidateQuietly(member);
