@@ -2,13 +2,11 @@ package org.apache.commons.pool2.impl;
 
 import io.github.zuphinka.Leak;
 import io.github.zuphinka.Metrics;
-import io.github.zuphinka.TimedObject;
 import io.github.zuphinka.ZuphinkaPool;
 import java.nio.file.Path;
 import java.time.Duration;
 import java.util.NoSuchElementException;
 import java.util.Set;
-import java.util.concurrent.TimeUnit;
 import java.util.concurrent.locks.ReentrantLock;
 import java.util.function.Consumer;
 import org.apache.commons.pool2.DestroyMode;
@@ -36,31 +34,11 @@ import org.apache.commons.pool2.UsageTracking;
  */
 public class GenericObjectPool<T> extends BaseGenericObjectPool<T> implements ObjectPool<T>, GenericObjectPoolMXBean, UsageTracking<T> {
     private static final String BEAN_BASE = "org.apache.commons.pool2:type=GenericObjectPool,name=";
-    private static final String TIMEOUT = "Timeout waiting for idle object";
-    private static final String EXHAUSTED = "Pool exhausted";
-    /** What follows these in a message of the pool: its name, and the numbers of objects. */
-    private static final String NUMBERS = ": pool ";
-    /** The other messages of borrows that got no object. */
-    private static final Set<String> MESSAGES = Set.of("Unable to activate object", "Unable to validate object");
-
-    /** Stands for an object that was idle for a time, as the library counts that. */
-    private static final class Idle<T> extends TimedObject<T> {
-        private final Duration idle;
-
-        Idle(long nanos) {
-            super(null, 0);
-            idle = Duration.ofNanos(nanos);
-        }
-
-        @Override
-        public Duration getIdleDuration() {
-            return idle;
-        }
-    }
 
     private final PooledObjectFactory<T> factory;
     private final CountedFactory<T> counted;
     private final ProvedPool<T> pool;
+    private final BorrowFailures failures = new BorrowFailures(this);
     private volatile int maxIdle = GenericObjectPoolConfig.DEFAULT_MAX_IDLE;
     private volatile int minIdle = GenericObjectPoolConfig.DEFAULT_MIN_IDLE;
     private volatile String factoryType;
@@ -144,16 +122,8 @@ public class GenericObjectPool<T> extends BaseGenericObjectPool<T> implements Ob
         boolean blocks = pool.blocks; // to the end of this borrow
         try {
             return pool.borrowObject(blocks ? borrowMaxWaitDuration : Duration.ZERO);
-        } catch (NoSuchElementException e) {
-            throw counted.isOfMake(e) ? e : none(e, blocks ? borrowMaxWaitDuration : null);
-        } catch (InterruptedException e) {
-            if (blocks || counted.isOfMake(e)) {
-                throw e;
-            }
-            Thread.currentThread().interrupt();
-            throw new NoSuchElementException(appendStats(EXHAUSTED));
-        } catch (IllegalStateException e) {
-            throw e.getCause() instanceof InterruptedException && !counted.isOfMake(e) ? closedMeanwhile(e) : e;
+        } catch (NoSuchElementException | InterruptedException | IllegalStateException e) {
+            throw counted.isOfMake(e) ? e : failures.of(e, blocks ? borrowMaxWaitDuration : null);
         } finally {
             pool.showCounts();
         }
@@ -177,35 +147,6 @@ public class GenericObjectPool<T> extends BaseGenericObjectPool<T> implements Ob
         }
     }
 
-    /** Counts a loan: how long its borrow took, and for how long the object was idle, unless a wrapper of the user's own class knows that. */
-    void noteLoan(PooledObject<T> pooled, long waitedNanos, long idleNanos) {
-        boolean isOwn = pooled.getClass() != DefaultPooledObject.class;
-        updateStatsBorrow(isOwn ? pooled : new Idle<>(idleNanos), Duration.ofMillis(TimeUnit.NANOSECONDS.toMillis(waitedNanos)));
-    }
-
-    /** Returns the exception of a borrow that got no object, with the message of the library. Without a longest wait it may not wait. */
-    private NoSuchElementException none(NoSuchElementException failure, Duration longest) {
-        String given = String.valueOf(failure.getMessage());
-        boolean isTimeout = given.startsWith(TIMEOUT + NUMBERS);
-        String timeout = longest == null ? EXHAUSTED : TIMEOUT + ", borrowMaxWaitDuration=" + longest;
-        String message = appendStats(isTimeout ? timeout + given.substring(TIMEOUT.length()) : given);
-        boolean hasNumbers = isTimeout || given.startsWith(EXHAUSTED + NUMBERS);
-        boolean isOwn = failure.getClass() == NoSuchElementException.class && (hasNumbers || MESSAGES.contains(given));
-        if (!isOwn || message.equals(given)) {
-            return failure;
-        }
-        NoSuchElementException told = new NoSuchElementException(message);
-        told.initCause(failure.getCause());
-        return told;
-    }
-
-    /** Returns the exception of a borrow that waited, and which a close has ended. */
-    private static InterruptedException closedMeanwhile(IllegalStateException failure) {
-        InterruptedException closed = new InterruptedException("The pool was closed");
-        closed.initCause(failure);
-        return closed;
-    }
-
     // Returns.
 
     /**
@@ -217,17 +158,7 @@ public class GenericObjectPool<T> extends BaseGenericObjectPool<T> implements Ob
     @Override
     public void returnObject(T obj) {
         pool.updateQuietly();
-        Duration active = counted.hasOwnWrappers() ? activeDuration(obj) : null;
-        long nanos = pool.giveBack(obj);
-        if (nanos >= 0) {
-            updateStatsReturn(active == null ? Duration.ofNanos(nanos) : active);
-        }
-    }
-
-    /** Returns how long an object has been lent, as its wrapper knows it; null if it is not of the pool. */
-    private Duration activeDuration(T object) {
-        PooledObject<T> pooled = getPooledObject(object);
-        return pooled == null ? null : pooled.getActiveDuration();
+        pool.returnObject(obj);
     }
 
     /**

@@ -1,16 +1,34 @@
 package org.apache.commons.pool2.impl;
 
 import io.github.zuphinka.Journal;
+import io.github.zuphinka.TimedObject;
 import io.github.zuphinka.ZuphinkaPool;
 import java.io.IOException;
 import java.io.UncheckedIOException;
 import java.nio.file.Path;
+import java.time.Duration;
+import java.util.concurrent.TimeUnit;
 import org.apache.commons.pool2.PooledObject;
 
 /** The pool with the objects of a {@link GenericObjectPool}. It has the settings that this had at the last call which took them over. */
 final class ProvedPool<T> extends ZuphinkaPool<T> {
     /** The property that names the folder for the journals of all pools. */
     static final String JOURNALS = "zuphinka.journals";
+
+    /** Stands for an object that was idle for a time, as the library counts that. */
+    private static final class Idle<T> extends TimedObject<T> {
+        private final Duration idle;
+
+        Idle(long nanos) {
+            super(null, 0);
+            idle = Duration.ofNanos(nanos);
+        }
+
+        @Override
+        public Duration getIdleDuration() {
+            return idle;
+        }
+    }
 
     private final GenericObjectPool<T> owner;
     private final CountedFactory<T> factory;
@@ -155,14 +173,22 @@ final class ProvedPool<T> extends ZuphinkaPool<T> {
         return super.wrapperOf(object);
     }
 
-    @Override
-    public long giveBack(T object) {
-        return super.giveBack(object);
-    }
-
+    /** Counts a loan: how long its borrow took, and for how long the object was idle, unless a wrapper of the user's own class knows that. */
     @Override
     protected void lent(PooledObject<T> wrapper, long waitedNanos, long idleNanos) {
-        owner.noteLoan(wrapper, waitedNanos, idleNanos);
+        boolean isOwn = wrapper.getClass() != DefaultPooledObject.class;
+        owner.updateStatsBorrow(isOwn ? wrapper : new Idle<>(idleNanos), Duration.ofMillis(TimeUnit.NANOSECONDS.toMillis(waitedNanos)));
+    }
+
+    /** Counts a return and the time of its loan, as a wrapper of the user's own class knows it, or the pool. */
+    @Override
+    public void returnObject(T object) {
+        PooledObject<T> own = factory.hasOwnWrappers() ? wrapperOf(object) : null;
+        Duration active = own == null ? null : own.getActiveDuration();
+        long nanos = giveBack(object);
+        if (nanos >= 0) {
+            owner.updateStatsReturn(active == null ? Duration.ofNanos(nanos) : active);
+        }
     }
 
     @Override
