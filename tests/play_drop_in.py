@@ -2,11 +2,11 @@
 
     play_drop_in.py LIBRARY JUDGE
 
-The class must have all public and protected members of the library's, and a few others (tests/drop_in/Surface.java). tests/drop_in/DropIn.java changes
-its settings at any time, also while threads call it. tests/drop_in/LaterSettings.java prints what calls do after each change, and must print the same
-over both classes. So must tests/drop_in/DataSources.java, which makes calls of DBCP2's BasicDataSource over H2. The journals must be legal, by the
-settings beside their segments. What needs a JDK or a jar that is missing is skipped, with the reason. The library's own tests run over the class in
-play_commons_pool.py.
+The class, and that of its wrappers, must have all public and protected members of the library's, and a few others (tests/drop_in/Surface.java).
+tests/drop_in/DropIn.java changes its settings at any time, also while threads call it. tests/drop_in/LaterSettings.java prints what calls do after
+each change, and must print the same over both classes. So must tests/drop_in/DataSources.java, which makes calls of DBCP2's BasicDataSource over H2.
+The journals must be legal, by the settings beside their segments. What needs a JDK or a jar that is missing is skipped, with the reason. The
+library's own tests run over the class in play_commons_pool.py.
 """
 
 import pathlib
@@ -19,28 +19,28 @@ from playing import TOP, has, scratch
 import java
 from install import heap_of_kit
 
-CLASS = "org.apache.commons.pool2.impl.GenericObjectPool"
 # What DBCP2 needs, and the packages that have it.
 JARS = {"commons-dbcp2": "libcommons-dbcp2-java", "commons-logging": "libcommons-logging-java", "h2": "libh2-java"}
 # What the tests have of those of the pool for Java.
 SHARED = ("Expectations", "Lacking")
-# The members that the library's class has not, by their names.
+# For each class the members that the library's has not, by their names, and how many this has at least, by the documentation of version 2.11.1.
 MORE = ["flushJournal", "getJournalFolder", "metrics", "setLeakDetectionThreshold", "setLeakListener", "setLeakStackTraces"]
-# How many members the class has at least, by the library's documentation of version 2.11.1.
-LEAST_MEMBERS = 100
+CLASSES = {"GenericObjectPool": (MORE, 100), "DefaultPooledObject": (["getActiveDuration"], 27)}
 # The name of a pool's MBean, as that of a folder; or what stands for it if there is none.
 POOL = re.compile(r"[A-Za-z0-9.]+:[A-Za-z0-9.,:=$_-]+|of_[A-Za-z0-9.$]+")
 
 
 def surface(classes, jars):
-    """What is wanted of the members of the class, and what they are."""
+    """What is wanted of the members of the classes, and what they are."""
     library = java.commons_pool()
-    done = run_java([classes], "Surface", CLASS, library, ":".join(map(str, [*jars, library])))
-    *others, last = done.stdout.splitlines() or [""]
-    yield "members that the library's class alone has", [], [member for member in others if member.startswith("-")]
-    yield "members that this class alone has", MORE, sorted(re.search(r"(\w+)\[", member)[1] for member in others if member.startswith("+"))
-    count = re.fullmatch(r"(\d+) members", last)
-    yield "there are members", True, count is not None and int(count[1]) >= LEAST_MEMBERS or done.stdout
+    for name, (more, least) in CLASSES.items():
+        done = run_java([classes], "Surface", f"org.apache.commons.pool2.impl.{name}", library, ":".join(map(str, [*jars, library])))
+        *others, last = done.stdout.splitlines() or [""]
+        yield f"members that the library's {name} alone has", [], [member for member in others if member.startswith("-")]
+        found = sorted(re.search(r"(\w+)\[", member)[1] for member in others if member.startswith("+"))
+        yield f"members that this {name} alone has", more, found
+        count = re.fullmatch(r"(\d+) members", last)
+        yield f"{name} has members", True, count is not None and int(count[1]) >= least or done.stdout
 
 
 def legal_journals(name, judge, folder):
