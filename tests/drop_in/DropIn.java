@@ -237,6 +237,31 @@ public final class DropIn extends Expectations {
         pool.close();
     }
 
+    /** The means are of the times for which objects were idle and lent, also of those whose wrapper reads no clock. */
+    private static void meanTimes() throws Exception {
+        long begun = System.nanoTime();
+        GenericObjectPool<Object> pool = pool(new Counted());
+        pool.addObject();
+        slept(20);
+        Object object = pool.borrowObject();
+        slept(60);
+        pool.returnObject(object);
+        slept(20);
+        pool.borrowObject();
+        long idle = pool.getMeanIdleTimeMillis();
+        long active = pool.getMeanActiveTimeMillis();
+        long elapsed = Duration.ofNanos(System.nanoTime() - begun).toMillis();
+        expect("idle for " + idle + " ms, lent for " + active + " ms, of " + elapsed, true, idle >= 20 && active >= 60 && 2 * idle + active <= elapsed);
+        pool.setMaxTotal(1);
+        FutureTask<Object> waiting = waiting(pool);
+        slept(20);
+        pool.setMaxTotal(2);
+        pool.clear();
+        within(waiting);
+        expect("a wait", true, pool.getMaxBorrowWaitTimeMillis() >= 20);
+        pool.close();
+    }
+
     /** A pool that cannot be made leaves no MBean. */
     private static void unmade() throws Exception {
         MBeanServer server = ManagementFactory.getPlatformMBeanServer();
@@ -588,6 +613,7 @@ public final class DropIn extends Expectations {
         closedWhileMaking();
         failingRun();
         noMemoryForTimes();
+        meanTimes();
         unmade();
         changedByThreads();
         closedDuringRun();

@@ -71,7 +71,7 @@ final class Leaks<T> {
             return;
         }
         try {
-            member.lender = new Lender(member.loanNumber(), hasStacks);
+            member.lender = new Lender(member, hasStacks);
         } catch (OutOfMemoryError | StackOverflowError e) {
             member.lender = null;
         }

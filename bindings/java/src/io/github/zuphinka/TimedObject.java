@@ -32,8 +32,8 @@ public class TimedObject<T> implements PooledObject<T> {
     private Moment returned;
     private long loans;
     private boolean logsAbandoned;
-    private CallStack borrowedBy = NoOpCallStack.INSTANCE;
-    private CallStack usedBy = NoOpCallStack.INSTANCE;
+    private volatile CallStack borrowedBy = NoOpCallStack.INSTANCE;
+    private volatile CallStack usedBy = NoOpCallStack.INSTANCE;
 
     /**
      * Wraps an object.

@@ -149,31 +149,17 @@ public class GenericObjectPool<T> extends BaseGenericObjectPool<T> implements Ob
 
     // Returns.
 
-    /**
-     * Returns a lent object. It becomes idle, or it is destroyed. What the factory throws is passed to the listener of swallowed exceptions.
-     *
-     * @param obj a lent object
-     * @throws IllegalStateException if the object was returned before, or is not of this pool and objects cannot be abandoned
-     */
     @Override
     public void returnObject(T obj) {
         pool.updateQuietly();
         pool.returnObject(obj);
     }
 
-    /**
-     * Destroys a lent object and frees its place. If objects can be abandoned, it has no effect on an object that is no longer of the pool.
-     *
-     * @param obj a lent object
-     * @throws IllegalStateException if the object is of this pool and not lent, or is not of this pool and objects cannot be abandoned
-     * @throws Exception if the factory fails to destroy it. Its place is free all the same
-     */
     @Override
     public void invalidateObject(T obj) throws Exception {
         invalidateObject(obj, DestroyMode.NORMAL);
     }
 
-    /** Does the same, and passes a mode on to the factory. */
     @Override
     public void invalidateObject(T obj, DestroyMode destroyMode) throws Exception {
         pool.updateQuietly();
@@ -372,11 +358,6 @@ public class GenericObjectPool<T> extends BaseGenericObjectPool<T> implements Ob
         return pool.getNumWaiters();
     }
 
-    /**
-     * Returns a view of each object that was made and is not being destroyed. Objects that come or go meanwhile may be missing.
-     *
-     * @return a set that later calls do not change
-     */
     @Override
     public Set<DefaultPooledObjectInfo> listAllObjects() {
         return pool.listAllObjects();
