@@ -132,6 +132,18 @@ public final class Wrappers extends Expectations {
         expect("not idle before", true, pooled.getIdleDuration().compareTo(active.plusMillis(LONGEST_MILLIS)) < 0);
     }
 
+    /** Times are told while another thread has the monitor of the wrapper, as Commons Pool has it while it looks for abandoned objects. */
+    private static void timesUnderMonitor() throws Exception {
+        PooledObject<Object> pooled = new TimedObject<>("object");
+        synchronized (pooled) {
+            Object told = within(begun(() -> {
+                TIMES.forEach(time -> time.apply(pooled));
+                return pooled.getIdleDuration().isNegative() || pooled.getActiveDuration().isNegative() ? "negative" : "told";
+            }));
+            expect("times under the monitor", "told", told);
+        }
+    }
+
     /** Has the wrapper of its only object, with which it works for some time. */
     private static class Kept extends BasePooledObjectFactory<Object> {
         PooledObject<Object> kept;
@@ -211,6 +223,7 @@ public final class Wrappers extends Expectations {
             sameSteps(seed);
         }
         others();
+        timesUnderMonitor();
         loans(new Kept(), new AbandonedConfig());
         hooks();
         printCounts();

@@ -21,7 +21,12 @@ final class Moment {
     }
 
     /** Returns the time by the wall clock, as that is when it is first asked for. */
-    synchronized Instant instant() {
+    Instant instant() {
+        Instant known = instant;
+        return known == null ? firstInstant() : known;
+    }
+
+    private synchronized Instant firstInstant() {
         if (instant == null) {
             instant = instantOf(nanoTime);
         }

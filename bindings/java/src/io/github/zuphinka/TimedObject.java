@@ -24,16 +24,17 @@ public class TimedObject<T> implements PooledObject<T> {
 
     private final T object;
     private final Moment created;
+    private volatile Moment lent;
+    /** The last use that its holder noted. */
+    private volatile Moment used;
+    private volatile Moment returned;
+    private volatile CallStack borrowedBy = NoOpCallStack.INSTANCE;
+    private volatile CallStack usedBy = NoOpCallStack.INSTANCE;
+    private volatile boolean logsAbandoned;
 
     // The monitor protects what follows.
     private PooledObjectState state = PooledObjectState.IDLE;
-    private Moment lent;
-    private Moment used;
-    private Moment returned;
     private long loans;
-    private boolean logsAbandoned;
-    private volatile CallStack borrowedBy = NoOpCallStack.INSTANCE;
-    private volatile CallStack usedBy = NoOpCallStack.INSTANCE;
 
     /**
      * Wraps an object.
@@ -67,7 +68,6 @@ public class TimedObject<T> implements PooledObject<T> {
         }
         state = PooledObjectState.ALLOCATED;
         lent = new Moment(nanoTime);
-        used = lent;
         loans++;
         if (logsAbandoned) {
             borrowedBy.fillInStackTrace();
@@ -97,7 +97,7 @@ public class TimedObject<T> implements PooledObject<T> {
     }
 
     @Override
-    public synchronized void use() {
+    public void use() {
         used = Moment.now();
         usedBy.fillInStackTrace();
     }
@@ -156,43 +156,43 @@ public class TimedObject<T> implements PooledObject<T> {
     }
 
     @Override
-    public synchronized Instant getLastBorrowInstant() {
+    public Instant getLastBorrowInstant() {
         return lent.instant();
     }
 
     @Override
-    public synchronized Instant getLastReturnInstant() {
+    public Instant getLastReturnInstant() {
         return returned.instant();
     }
 
     @Override
     public Instant getLastUsedInstant() {
-        Instant last = lastUse();
+        Moment loan = lent;
+        Moment use = used;
+        Instant last = use.isAfter(loan) ? use.instant() : loan.instant();
         Instant told = object instanceof TrackedUse ? ((TrackedUse) object).getLastUsedInstant() : last;
         return told.isAfter(last) ? told : last;
     }
 
-    private synchronized Instant lastUse() {
-        return used.instant();
+    @Override
+    public Duration getActiveDuration() {
+        Moment loan = lent;
+        Moment end = returned;
+        return loan.until(end.isAfter(loan) ? end : Moment.now());
     }
 
     @Override
-    public synchronized Duration getActiveDuration() {
-        return lent.until(returned.isAfter(lent) ? returned : Moment.now());
-    }
-
-    @Override
-    public synchronized Duration getIdleDuration() {
+    public Duration getIdleDuration() {
         return returned.until(Moment.now());
     }
 
     @Override
-    public synchronized void setLogAbandoned(boolean value) {
+    public void setLogAbandoned(boolean value) {
         logsAbandoned = value;
     }
 
     @Override
-    public synchronized void setRequireFullStackTrace(boolean value) {
+    public void setRequireFullStackTrace(boolean value) {
         borrowedBy = CallStackUtils.newCallStack(BORROWED, true, value);
         usedBy = CallStackUtils.newCallStack(USED, false, value);
     }
