@@ -1,6 +1,5 @@
 package io.github.zuphinka;
 
-import java.io.IOException;
 import java.lang.ref.WeakReference;
 import java.nio.file.Path;
 import java.time.Duration;
