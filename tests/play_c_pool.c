@@ -2683,7 +2683,7 @@ static void test_callers(void) {
 /* ---- the calls of the library, without the pool for threads */
 
 /* A pool whose host has all work to do. */
-static struct zuphinka open_driven(uint64_t number, const char *settings) {
+static struct zuphinka open_hosted(uint64_t number, const char *settings) {
   const struct zuphinka_options options = {.pool = number, .activates = true, .validates = true, .passivates = true};
   struct zuphinka pool = {.at = NULL};
   check(zuphinka_open_with(&pool, settings, strlen(settings), &options) == ZUPHINKA_STATUS_DONE);
@@ -3109,7 +3109,7 @@ static void test_lent_objects(void) {
 }
 
 static void test_unknown_kinds(void) {
-  struct zuphinka pool = open_driven(1, "");
+  struct zuphinka pool = open_hosted(1, "");
   refuse(&pool, NULL, 0, ZUPHINKA_STATUS_BAD_REQUEST);
   refuse(&pool, NULL, ZUPHINKA_KIND_CLOSE + 1, ZUPHINKA_STATUS_BAD_REQUEST);
   refuse(&pool, NULL, UINT32_MAX, ZUPHINKA_STATUS_BAD_REQUEST);
@@ -3138,7 +3138,7 @@ static void refuse_all(struct zuphinka *pool, const struct zuphinka_call *call, 
   memset(&wrong[1], 'u', sizeof *wrong);
   wrong[2] = *call;
   memset(&wrong[2].words[2], 'u', sizeof *wrong - 2 * sizeof *wrong[2].words); /* the words after the mark and the pool */
-  if (!other.at) other = open_driven(2, "");
+  if (!other.at) other = open_hosted(2, "");
   for (uint32_t report = 0; report <= ZUPHINKA_REPORT_GIVEN_UP + 1; report++) {
     bool is_known = report >= ZUPHINKA_REPORT_GO_ON && report <= ZUPHINKA_REPORT_GIVEN_UP;
     for (size_t n = 0; n < sizeof wrong / sizeof *wrong; n++) refuse(pool, &wrong[n], report, ZUPHINKA_STATUS_NO_CALL);
@@ -3180,7 +3180,7 @@ static uint32_t drive_call(struct zuphinka *pool, uint32_t kind, const char *act
 
 /* What is refused changes nothing at any action of a call, and the call goes on after it. */
 static void test_refused_reports(void) {
-  struct zuphinka pool = open_driven(1, "maxTotal = 1\ntestOnBorrow = true\ntestOnReturn = true\n");
+  struct zuphinka pool = open_hosted(1, "maxTotal = 1\ntestOnBorrow = true\ntestOnReturn = true\n");
   struct zuphinka_effects effects;
   struct zuphinka_call waiting = {.words = {0}};
   check(drive_call(&pool, ZUPHINKA_KIND_BORROW, "mav", &effects) == ZUPHINKA_END_LENT && effects.object == &maker);
@@ -3201,7 +3201,7 @@ static void test_refused_reports(void) {
 
 /* The same while the journal has no room. */
 static void test_refused_reports_without_room(void) {
-  struct zuphinka pool = open_driven(1, "journalLimit = 5\n");
+  struct zuphinka pool = open_hosted(1, "journalLimit = 5\n");
   struct zuphinka_effects effects;
   struct zuphinka_call call = {.words = {0}};
   check(begin(&pool, ZUPHINKA_KIND_BORROW, &call, &effects) == ZUPHINKA_STATUS_DONE && effects.action == ZUPHINKA_ACTION_MAKE_ROOM);
@@ -3217,7 +3217,7 @@ static void test_wrong_bytes(void) {
   static const unsigned char wrong[] = {0, 1, 2, 3, 4, 5, 6, 7, 8, 11, 128, 255};
   for (size_t at = 0; at < sizeof(struct zuphinka_call); at++) {
     for (size_t n = 0; n < sizeof wrong; n++) {
-      struct zuphinka pool = open_driven(1, "testOnBorrow = true\n");
+      struct zuphinka pool = open_hosted(1, "testOnBorrow = true\n");
       struct zuphinka_call call;
       struct zuphinka_effects effects;
       check(begin(&pool, ZUPHINKA_KIND_BORROW, &call, &effects) == ZUPHINKA_STATUS_DONE);
@@ -3236,7 +3236,7 @@ static bool has_counts(const struct zuphinka_effects *effects, uint64_t count, u
 }
 
 static void test_counts_of_calls(void) {
-  struct zuphinka pool = open_driven(1, "maxTotal = 3\nminIdle = 2\ntestWhileIdle = true\n"
+  struct zuphinka pool = open_hosted(1, "maxTotal = 3\nminIdle = 2\ntestWhileIdle = true\n"
                                         "[abandoned]\nremoveAbandonedOnMaintenance = true\nremoveAbandonedTimeoutMillis = 0\n");
   struct zuphinka_effects effects;
   struct zuphinka_call call;

@@ -17,7 +17,7 @@ import os
 import random
 import sys
 
-from call_model import FITTING, Driven
+from call_model import FITTING, Hosted
 from playing import differing, run, tell
 from pool_model import settings_of
 
@@ -87,7 +87,7 @@ class Player:
         self.settings = {**OF_CALLS, **settings_of("\n".join(lines))}
         hooks = {key: dice.random() < 0.5 for key in HOOKS}
         overtakes, millis, self.drops = dice.choice((0, 1, 1, 2, 5)), dice.choice((0, 0, 5, 50)), dice.random() < 0.25
-        self.model = Driven(self.settings, hooks, overtakes, millis, self.drops)
+        self.model = Hosted(self.settings, hooks, overtakes, millis, self.drops)
         flags = ["yes" if flag else "no" for flag in (*(hooks[key] for key in HOOKS), self.drops)]
         # The script, and the lines that it is answered.
         self.commands, self.answers = [*lines, "", f"pool {overtakes} {millis} {' '.join(flags)}"], []

@@ -8,7 +8,7 @@ use Rattle.pool_journal.specs.declared.answer.Answer.TheVariants as answers
 use Rattle.pool_journal.specs.declared.answer.Cause.TheVariants as causes
 use Rattle.pool_calls.specs.declared.kind.Kind.{Kind}
 use Rattle.pool_calls.specs.declared.kind.Kind.TheVariants as kinds
-use Rattle.pool_calls.specs.declared.plan.Plan.{Plan}
+use Rattle.pool_calls.specs.declared.hook_plan.HookPlan.{HookPlan}
 use Rattle.pool_calls.specs.declared.work.Task.{Task}
 use Rattle.pool_calls.specs.declared.work.Task.TheVariants as tasks
 use Rattle.pool_calls.specs.declared.stage.Object.{Object}
@@ -35,7 +35,7 @@ abbrev pub borrows_at : Kind → Stage → Bool
 borrows_at k (stages.Asks requests.Ask) = is_borrow k
 borrows_at k _ = false
 
-abbrev pub left_of : Plan → Kind → Stage → ℕ
+abbrev pub left_of : HookPlan → Kind → Stage → ℕ
 left_of p k (stages.Asks request) = request_left k request
 left_of p k (stages.Works object) = each_left k * object.left + length (in_order (work_of p k object.is_new)) + 3
 left_of p k (stages.Removes object o) = each_left k * object.left + 2
@@ -47,24 +47,24 @@ abbrev pub unless_any : List Task → ℕ → ℕ
 unless_any [] n = n
 unless_any (t ∷ ts) n = 0
 
-abbrev pub steps_of : Plan → Kind → Stage → ℕ
+abbrev pub steps_of : HookPlan → Kind → Stage → ℕ
 steps_of p k (stages.Asks request) = request_steps k request
 steps_of p k (stages.Works object) = unless_any (in_order (work_of p k object.is_new)) (reporting_steps k object.left)
 steps_of p k (stages.Removes object o) = cond (destroys k) 0 (freeing_steps k object.left)
 steps_of p k _ = 0
 
 -- at most so much is left at a stage, unless it asks again
-pub record Nearer (p : Plan) (k : Kind) (n m : ℕ) (s : Stage) : Type 0 where
+pub record Nearer (p : HookPlan) (k : Kind) (n m : ℕ) (s : Stage) : Type 0 where
   pub left : fills_at k s ≡ false → left_of p k s < n
   pub steps : borrows_at k s ≡ false → steps_of p k s < m
 
-now : {p : Plan} {k : Kind} {n m : ℕ} {s : Stage} → left_of p k s < n → steps_of p k s < m → Nearer p k n m s
+now : {p : HookPlan} {k : Kind} {n m : ℕ} {s : Stage} → left_of p k s < n → steps_of p k s < m → Nearer p k n m s
 now few short = record { left = λ asks. few; steps = λ asks. short }
 
-again : {p : Plan} {k : Kind} {n m : ℕ} {s : Stage} → fills_at k s ≡ true → borrows_at k s ≡ true → Nearer p k n m s
+again : {p : HookPlan} {k : Kind} {n m : ℕ} {s : Stage} → fills_at k s ≡ true → borrows_at k s ≡ true → Nearer p k n m s
 again fills borrows = record { left = λ asks. absurd (cc (fills, asks)); steps = λ asks. absurd (cc (borrows, asks)) }
 
-lower : {p : Plan} {k : Kind} {n m : ℕ} {s : Stage} (few short : ℕ) → Nearer p k few short s → few ≤ n → short ≤ m → Nearer p k n m s
+lower : {p : HookPlan} {k : Kind} {n m : ℕ} {s : Stage} (few short : ℕ) → Nearer p k few short s → few ≤ n → short ≤ m → Nearer p k n m s
 lower few short near a b = record { left = λ asks. omega (arith, near.left asks); steps = λ asks. omega (arith, near.steps asks) }
 
 -- ---- tasks
@@ -76,7 +76,7 @@ less : (ts : List Task) (n : ℕ) → unless_any ts n ≤ n
 less [] n = omega arith
 less (t ∷ ts) n = omega arith
 
-module _ (p : Plan) where
+module _ (p : HookPlan) where
   borrow_tasks : (b : ℕ) (new : Bool) → length (in_order (work_of p (kinds.Borrow b) new)) ≤ 4
   borrow_tasks b new =
       one_more new _ _ 3 (one_more _ _ _ 2 (one_more p.activates _ _ 1 (one_more p.test_on_borrow _ _ 0 (omega arith))))
@@ -112,7 +112,7 @@ passing_steps kinds.Reclaim n = n
 passing_steps (kinds.Detach i) n = 2
 passing_steps k n = 1
 
-module _ (p : Plan) where
+module _ (p : HookPlan) where
   on : (k : Kind) (n : ℕ) → Nearer p k (each_left k * n + through_left k + 1) (passing_steps k n + 1) (table.go_through k n)
   on (kinds.Borrow b) zero = again refl refl
   on _ zero = now (omega arith) (omega arith)

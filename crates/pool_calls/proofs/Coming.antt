@@ -10,18 +10,18 @@ use Rattle.pool_calls.specs.declared.action.Event.{Event}
 use Rattle.pool_calls.specs.declared.action.Event.TheVariants as events
 use Rattle.pool_calls.specs.declared.kind.Kind.{Kind}
 use Rattle.pool_calls.specs.declared.kind.Kind.TheVariants as kinds
-use Rattle.pool_calls.specs.declared.plan.Plan.{Plan}
+use Rattle.pool_calls.specs.declared.hook_plan.HookPlan.{HookPlan}
 use Rattle.pool_calls.specs.declared.stage.Stage.{Stage}
 use Rattle.pool_calls.specs.declared.stage.Request.TheVariants as requests
 use Rattle.pool_calls.specs.declared.stage.Place.{Place}
 use Rattle.pool_calls.specs.declared.stage.Place.TheVariants as places
-use Rattle.pool_calls.specs.declared.tally.Tally.{Tally}
+use Rattle.pool_calls.specs.declared.call_counts.CallCounts.{CallCounts}
 use Rattle.pool_calls.specs.Steps.{report_of, outcome_of, is_borrow, is_counted, is_freed}
 use Rattle.pool_calls.specs.Table.{after_report}
 use Rattle.pool_calls.specs.Tasks.{allows, work_of}
 use Rattle.pool_calls.specs.Rules as rules
 use Rattle.pool_calls.specs.Rules.{IsAt, IsExpected, IsReport, GoesOn, first_stage, next, stage_after, step_at, step_for, has_step}
-use Rattle.pool_calls.specs.Tallies.{capped, one_more, tally_after, tally_of}
+use Rattle.pool_calls.specs.Counting.{capped, one_more, counts_after, counts_of}
 use Rattle.pool_calls.specs.Turns.{Turn, run_stages, AllExpected, add_turn, turns_after}
 
 pub outcome_reported : (k : Kind) (i : ℕ) (o : Outcome) → outcome_of (report_of k i o) ≡ o
@@ -32,13 +32,13 @@ outcome_reported kinds.Fill i o = refl
 outcome_reported _ i o = refl
 
 -- the report of an outcome that the work may have is one
-pub is_report : (p : Plan) (k : Kind) (new : Bool) (i : ℕ) (o : Outcome) → allows (work_of p k new) o ≡ true → IsReport k (work_of p k new) i (report_of k i o)
+pub is_report : (p : HookPlan) (k : Kind) (new : Bool) (i : ℕ) (o : Outcome) → allows (work_of p k new) o ≡ true → IsReport k (work_of p k new) i (report_of k i o)
 is_report p k new i o may =
     let e = outcome_reported k i o in
     (ap (report_of k i) (sym e), subst (λ (x : Outcome). allows (work_of p k new) x ≡ true) (sym e) may)
 
 -- ---- one more turn
-module _ (p : Plan) (k : Kind) where
+module _ (p : HookPlan) (k : Kind) where
   run_on : (from : Stage) (ts : List Turn) (t : Turn) → run_stages (next k) from (ts ++ t ∷ []) ≡ next k (run_stages (next k) from ts) t
   run_on from [] t = refl
   run_on from (u ∷ us) t = run_on (next k from u) us t
@@ -84,25 +84,25 @@ count_on : (p : Turn → Bool) (ts : List Turn) (t : Turn) → capped (capped (c
 count_on p ts t = capped_on (count_by p ts) (cond (p t) 1 0) ∙ ap capped (sym (sum_by_push (λ u. cond (p u) 1 0) ts t))
 
 module _ (k : Kind) where
-  more : (input : Input) (a : Answer) (ts : List Turn) → one_more k a (tally_of k ts) ≡ tally_of k (ts ++ record { input = input; answer = a } ∷ [])
+  more : (input : Input) (a : Answer) (ts : List Turn) → one_more k a (counts_of k ts) ≡ counts_of k (ts ++ record { input = input; answer = a } ∷ [])
   more input a ts =
       let t : Turn = record { input = input; answer = a } in
-      let was : Tally = one_more k a (tally_of k ts) in
-      let objects : was.objects ≡ (tally_of k (ts ++ t ∷ [])).objects = count_on (λ u. is_counted k u.answer) ts t in
-      let freed : was.freed ≡ (tally_of k (ts ++ t ∷ [])).freed = count_on (λ u. is_freed u.answer) ts t in
-      let P : ℕ → Tally = λ n. record { objects = n; freed = was.freed } in
-      let Q : ℕ → Tally = λ n. record { objects = (tally_of k (ts ++ t ∷ [])).objects; freed = n } in
+      let was : CallCounts = one_more k a (counts_of k ts) in
+      let objects : was.objects ≡ (counts_of k (ts ++ t ∷ [])).objects = count_on (λ u. is_counted k u.answer) ts t in
+      let freed : was.freed ≡ (counts_of k (ts ++ t ∷ [])).freed = count_on (λ u. is_freed u.answer) ts t in
+      let P : ℕ → CallCounts = λ n. record { objects = n; freed = was.freed } in
+      let Q : ℕ → CallCounts = λ n. record { objects = (counts_of k (ts ++ t ∷ [])).objects; freed = n } in
       ap P objects ∙ ap Q freed
 
-  more_answered : (a : Answer) (before : Place) (ts : List Turn) → has_step before ≡ true → one_more k a (tally_of k ts) ≡ tally_of k (add_turn (step_at k before) a ts)
+  more_answered : (a : Answer) (before : Place) (ts : List Turn) → has_step before ≡ true → one_more k a (counts_of k ts) ≡ counts_of k (add_turn (step_at k before) a ts)
   more_answered a (places.Asks request) ts fits = more (step_for k request) a ts
   more_answered a (places.Reports o object) ts fits = more (report_of k object.id o) a ts
   more_answered a (places.Frees o object) ts fits = more (inputs.Destroyed object.id) a ts
   more_answered a _ ts fits = absurd (cc)
 
-  pub tally_on : (event : Event) (given_up : Bool) (before : Place) (ts : List Turn) → true ≡ rules.fits k given_up before event → tally_after k event (tally_of k ts) ≡ tally_of k (turns_after (step_at k before) event ts)
-  tally_on (events.Answered a) given_up before ts fits = more_answered a before ts (sym fits)
-  tally_on _ given_up before ts fits = refl
+  pub counts_on : (event : Event) (given_up : Bool) (before : Place) (ts : List Turn) → true ≡ rules.fits k given_up before event → counts_after k event (counts_of k ts) ≡ counts_of k (turns_after (step_at k before) event ts)
+  counts_on (events.Answered a) given_up before ts fits = more_answered a before ts (sym fits)
+  counts_on _ given_up before ts fits = refl
 
 -- ---- waits
 asking_borrows : (k : Kind) (place : Place) (b : Bool) → (rules.is_asking k place && b) ≡ true → is_borrow k ≡ true

@@ -5,7 +5,7 @@ use Rattle.pool_calls.specs.declared.action.Action.TheVariants as actions
 use Rattle.pool_calls.specs.declared.action.Event.TheVariants as events
 use Rattle.pool_calls.specs.declared.action.StepFailure.TheVariants as failures
 use Rattle.pool_calls.specs.declared.kind.Kind.{Kind}
-use Rattle.pool_calls.specs.declared.plan.Plan.{Plan}
+use Rattle.pool_calls.specs.declared.hook_plan.HookPlan.{HookPlan}
 use Rattle.pool_calls.specs.declared.stage.Object.{Object}
 use Rattle.pool_calls.specs.declared.stage.Stage.{Stage}
 use Rattle.pool_calls.specs.declared.stage.Stage.TheVariants as stages
@@ -17,7 +17,7 @@ use Rattle.pool_calls.specs.Runs.{FreesOnlyDestroyed, HasDestroyed}
 use Rattle.pool_calls.specs.Operations.{HasCome, Proceeds, fits, stage_of}
 use Rattle.pool_calls.specs.Steps.{destroys}
 
-module _ (p : Plan) (k : Kind) (object : Object) (o : Outcome) where
+module _ (p : HookPlan) (k : Kind) (object : Object) (o : Outcome) where
   -- an answer does not lead there
   not_at_once : (s : Stage) (A : Type 0) → destroys k ≡ true → s ≡ stages.Removes object o → [] ≡ work_due p k s → A
   not_at_once s A does is none =

@@ -8,7 +8,7 @@ use Rattle.pool_calls.specs.declared.action.Action.TheVariants as actions
 use Rattle.pool_calls.specs.declared.action.Event.TheVariants as events
 use Rattle.pool_calls.specs.declared.kind.Kind.{Kind}
 use Rattle.pool_calls.specs.declared.kind.Kind.TheVariants as kinds
-use Rattle.pool_calls.specs.declared.plan.Plan.{Plan}
+use Rattle.pool_calls.specs.declared.hook_plan.HookPlan.{HookPlan}
 use Rattle.pool_calls.specs.declared.work.Task.{Task}
 use Rattle.pool_calls.specs.declared.stage.Request.TheVariants as requests
 use Rattle.pool_calls.specs.declared.stage.Stage.{Stage}
@@ -35,7 +35,7 @@ none_due : (f : Task → Action) (ts : List Task) (n : ℕ) → [] ≡ map f ts 
 none_due f [] n is = omega arith
 none_due f (t ∷ ts) n is = absurd (cc is)
 
-module _ (p : Plan) (k : Kind) where
+module _ (p : HookPlan) (k : Kind) where
   -- no more is left at a place than at its stage
   abbrev Within : Place → Stage → Type 0
   Within place s = (events_left p k place ≤ left_of p k s) × (steps_left k place ≤ steps_of p k s)
@@ -74,7 +74,7 @@ stage_at (places.Frees o object) = stages.Removes object o
 stage_at (places.DestroysGone i) = stages.Gone i
 stage_at (places.Ended e) = stages.Ends e
 
-is_stage : (p : Plan) (k : Kind) (place : Place) (s : Stage) → is_over place ≡ false → IsAt p k place s → s ≡ stage_at place
+is_stage : (p : HookPlan) (k : Kind) (place : Place) (s : Stage) → is_over place ≡ false → IsAt p k place s → s ≡ stage_at place
 is_stage p k (places.Asks request) s goes at = at
 is_stage p k (places.LacksRoom request) s goes at = at
 is_stage p k places.Waits s goes at = at
@@ -106,7 +106,7 @@ borrows _ (places.Asks requests.Ask) room asks = refl
 borrows _ (places.Asks (requests.Next left)) room asks = refl
 borrows _ _ room asks = refl
 
-some_left : (p : Plan) (k : Kind) (place : Place) → has_step place ≡ true → (0 < events_left p k place) × (0 < steps_left k place)
+some_left : (p : HookPlan) (k : Kind) (place : Place) → has_step place ≡ true → (0 < events_left p k place) × (0 < steps_left k place)
 some_left p (kinds.Borrow b) (places.Asks requests.Begin) is = (omega arith, omega arith)
 some_left p (kinds.Borrow b) (places.Asks requests.Ask) is = (omega arith, omega arith)
 some_left p (kinds.Borrow b) (places.Asks (requests.Next left)) is = (omega arith, omega arith)
@@ -119,7 +119,7 @@ some_left p _ (places.Reports o object) is = (omega arith, omega arith)
 some_left p _ (places.Frees o object) is = (omega arith, omega arith)
 some_left p _ _ is = absurd (cc is)
 
-module _ (p : Plan) (k : Kind) where
+module _ (p : HookPlan) (k : Kind) where
   near_on : (a : Answer) (before after : Place) → CountFits a → has_step before ≡ true → is_over after ≡ false → lacks_room after ≡ false
       → IsAt p k after (stage_after k before a) → work_left p k after ≡ work_due p k (stage_after k before a)
       → Nears p k (events.Answered a) before after × Steps k (events.Answered a) before after

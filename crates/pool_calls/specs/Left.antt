@@ -4,7 +4,7 @@ use Rattle.pool_journal.specs.declared.answer.Answer.{Answer}
 use Rattle.pool_journal.specs.declared.answer.Answer.TheVariants as answers
 use Rattle.pool_calls.specs.declared.kind.Kind.{Kind}
 use Rattle.pool_calls.specs.declared.kind.Kind.TheVariants as kinds
-use Rattle.pool_calls.specs.declared.plan.Plan.{Plan}
+use Rattle.pool_calls.specs.declared.hook_plan.HookPlan.{HookPlan}
 use Rattle.pool_calls.specs.declared.stage.Request.{Request}
 use Rattle.pool_calls.specs.declared.stage.Request.TheVariants as requests
 use Rattle.pool_calls.specs.declared.stage.Place.{Place}
@@ -67,7 +67,7 @@ request_left k requests.Ask = asking_left k
 request_left k (requests.Next left) = each_left k * (left + 1) + through_left k
 
 -- at a place
-abbrev pub events_left : Plan → Kind → Place → ℕ
+abbrev pub events_left : HookPlan → Kind → Place → ℕ
 events_left p k (places.Asks request) = request_left k request
 events_left p k (places.LacksRoom request) = request_left k request
 events_left p k places.Waits = asking_left k

@@ -7,7 +7,7 @@ pub mod Rules
 pub mod Runs
 pub mod Steps
 pub mod Table
-pub mod Tallies
+pub mod Counting
 pub mod Tasks
 pub mod Turns
 pub mod Waiting

@@ -5,12 +5,12 @@ use Rattle.pool_calls.specs.declared.action.Action.{Action}
 use Rattle.pool_calls.specs.declared.action.Event.{Event}
 use Rattle.pool_calls.specs.declared.kind.Kind.{Kind}
 use Rattle.pool_calls.specs.declared.kind.Kind.TheVariants as kinds
-use Rattle.pool_calls.specs.declared.plan.Plan.{Plan}
+use Rattle.pool_calls.specs.declared.hook_plan.HookPlan.{HookPlan}
 use Rattle.pool_calls.specs.declared.stage.Stage.{Stage}
 use Rattle.pool_calls.specs.declared.operation.Operation.{Operation}
 use Rattle.pool_calls.specs.Progress.{Takes, is_given_up}
 use Rattle.pool_calls.specs.Rules as rules
-use Rattle.pool_calls.specs.Tallies.{tally_of}
+use Rattle.pool_calls.specs.Counting.{counts_of}
 use Rattle.pool_calls.specs.Turns.{Turn, AllExpected, run_stages, turns_after}
 
 -- the stage of a call after these turns
@@ -21,7 +21,7 @@ stage_of op turns = run_stages (rules.next op.kind) (rules.first_stage op.plan o
 pub record Reached (op : Operation) (turns : List Turn) : Type 0 where
   pub expected : AllExpected (rules.IsExpected op.plan op.kind) (rules.next op.kind) (rules.first_stage op.plan op.kind) turns
   pub at : rules.IsAt op.plan op.kind op.place (stage_of op turns)
-  pub tally : op.tally ≡ tally_of op.kind turns
+  pub counts : op.counts ≡ counts_of op.kind turns
 
 -- after these turns a call has come so far
 unfoldable pub HasCome : Operation → List Turn → Type 0
@@ -72,7 +72,7 @@ abbrev pub began_of : Operation → Option ℕ
 began_of op = beginning op.kind
 
 -- it follows this plan
-abbrev pub Follows : Plan → Operation → Type 0
+abbrev pub Follows : HookPlan → Operation → Type 0
 Follows p op = op.plan ≡ p
 
 -- what an event changes, and what it leaves

@@ -5,7 +5,7 @@ use Rattle.pool_calls.specs.declared.action.Event.{Event}
 use Rattle.pool_calls.specs.declared.action.Event.TheVariants as events
 use Rattle.pool_calls.specs.declared.kind.Kind.{Kind}
 use Rattle.pool_calls.specs.declared.kind.Kind.TheVariants as kinds
-use Rattle.pool_calls.specs.declared.plan.Plan.{Plan}
+use Rattle.pool_calls.specs.declared.hook_plan.HookPlan.{HookPlan}
 use Rattle.pool_calls.specs.declared.stage.Request.TheVariants as requests
 use Rattle.pool_calls.specs.declared.stage.Stage.{Stage}
 use Rattle.pool_calls.specs.declared.stage.Stage.TheVariants as stages
@@ -42,7 +42,7 @@ goes_on_filling kinds.Fill (places.Asks requests.Ask) = true
 goes_on_filling k place = asks_again k place
 
 -- each answer and each report of the factory brings the end nearer, unless a borrow or a fill asks again
-abbrev pub Nears : Plan → Kind → Event → Place → Place → Type 0
+abbrev pub Nears : HookPlan → Kind → Event → Place → Place → Type 0
 Nears p k (events.Answered a) before after = goes_on_filling k after ≡ false → events_left p k after < events_left p k before
 Nears p k events.Succeeded before after = events_left p k after < events_left p k before
 Nears p k events.Failed before after = events_left p k after < events_left p k before
@@ -54,7 +54,7 @@ Steps k (events.Answered a) before after = asks_again k after ≡ false → step
 Steps k _ before after = Unit {0}
 
 -- what an event does to a call
-pub record Takes (p : Plan) (k : Kind) (given_up : Bool) (event : Event) (before after : Place) : Type 0 where
+pub record Takes (p : HookPlan) (k : Kind) (given_up : Bool) (event : Event) (before after : Place) : Type 0 where
   pub goes : GoesOn p k event before after
   pub works : Works p k event before after
   pub ends : Ends k given_up event before after

@@ -14,7 +14,7 @@ use Rattle.pool_calls.specs.declared.action.End.{End}
 use Rattle.pool_calls.specs.declared.action.End.TheVariants as ends
 use Rattle.pool_calls.specs.declared.action.StepFailure.TheVariants as failures
 use Rattle.pool_calls.specs.declared.kind.Kind.{Kind}
-use Rattle.pool_calls.specs.declared.plan.Plan.{Plan}
+use Rattle.pool_calls.specs.declared.hook_plan.HookPlan.{HookPlan}
 use Rattle.pool_calls.specs.declared.work.Task.{Task}
 use Rattle.pool_calls.specs.declared.work.Task.TheVariants as tasks
 use Rattle.pool_calls.specs.declared.work.Work.{Work}
@@ -32,7 +32,7 @@ use Rattle.pool_calls.specs.Turns.{Turn, but_first, is_full}
 
 -- ---- the steps
 -- where a call begins: a borrow may reclaim abandoned objects first
-abbrev pub first_stage : Plan → Kind → Stage
+abbrev pub first_stage : HookPlan → Kind → Stage
 first_stage p k = if is_borrow k && p.remove_abandoned_on_borrow then stages.Asks requests.Begin else stages.Asks requests.Ask
 
 -- the stage after one more turn
@@ -49,7 +49,7 @@ step_for k requests.Ask = ask_of k
 step_for k (requests.Next left) = next_of k
 
 -- the first step of a call
-abbrev pub first_step : Plan → Kind → Input
+abbrev pub first_step : HookPlan → Kind → Input
 first_step p k = if is_borrow k && p.remove_abandoned_on_borrow then inputs.Reclaim times.Borrow else ask_of k
 
 -- the input reports an outcome that the work may have
@@ -57,7 +57,7 @@ abbrev pub IsReport : Kind → Work → ℕ → Input → Type 0
 IsReport k w i input = (input ≡ report_of k i (outcome_of input)) × (allows w (outcome_of input) ≡ true)
 
 -- the next input
-abbrev pub IsExpected : Plan → Kind → Stage → Input → Type 0
+abbrev pub IsExpected : HookPlan → Kind → Stage → Input → Type 0
 IsExpected p k (stages.Asks request) input = input ≡ step_for k request
 IsExpected p k (stages.Works object) input = IsReport k (work_of p k object.is_new) object.id input
 IsExpected p k (stages.Removes object o) input = input ≡ inputs.Destroyed object.id
@@ -84,7 +84,7 @@ MayEnd _ e = ⊥
 
 -- ---- places
 -- a call is at this place at a stage
-abbrev pub IsAt : Plan → Kind → Place → Stage → Type 0
+abbrev pub IsAt : HookPlan → Kind → Place → Stage → Type 0
 IsAt p k (places.Asks request) s = s ≡ stages.Asks request
 IsAt p k (places.LacksRoom request) s = s ≡ stages.Asks request
 IsAt p k places.Waits s = s ≡ stages.Asks requests.Ask
@@ -121,7 +121,7 @@ stage_after k (places.Frees o object) a = after_freeing k object o a
 stage_after k _ a = stages.Ends (ends.Contradicted a)
 
 -- a call goes on from a place to another: to a place for the next stage after an answer, and for the same stage otherwise
-abbrev pub GoesOn : Plan → Kind → Event → Place → Place → Type 0
+abbrev pub GoesOn : HookPlan → Kind → Event → Place → Place → Type 0
 GoesOn p k (events.Answered a) before after = IsAt p k after (stage_after k before a)
 GoesOn p k _ before after = (s : Stage) → IsAt p k before s → IsAt p k after s
 
@@ -143,7 +143,7 @@ IsDestroying i (stages.Gone j) = i ≡ j
 IsDestroying i _ = ⊥
 
 -- an action is right at a stage
-abbrev pub IsRight : Plan → Kind → Stage → Action → Type 0
+abbrev pub IsRight : HookPlan → Kind → Stage → Action → Type 0
 IsRight p k s (actions.Step input) = IsExpected p k s input
 IsRight p k s actions.MakeRoom = HoldsNothing s
 IsRight p k s (actions.Make i) = IsWorking i s
@@ -156,14 +156,14 @@ IsRight p k s (actions.Done e) = MayEnd s e
 
 -- ---- the work of the factory
 -- the work that a stage begins with
-abbrev pub work_due : Plan → Kind → Stage → List Action
+abbrev pub work_due : HookPlan → Kind → Stage → List Action
 work_due p k (stages.Works object) = map (action_of object.id) (in_order (work_of p k object.is_new))
 work_due p k (stages.Removes object o) = if destroys k then actions.Destroy object.id ∷ [] else []
 work_due p k (stages.Gone i) = actions.Destroy i ∷ []
 work_due p k _ = []
 
 -- the work that is left at a place
-abbrev pub work_left : Plan → Kind → Place → List Action
+abbrev pub work_left : HookPlan → Kind → Place → List Action
 work_left p k (places.Works task object) = map (action_of object.id) (task ∷ rest_after (work_of p k object.is_new) task)
 work_left p k (places.Destroys o object) = actions.Destroy object.id ∷ []
 work_left p k (places.DestroysGone i) = actions.Destroy i ∷ []
@@ -191,7 +191,7 @@ given_up_at place = place
 
 -- An answer begins the work that is due. A success does the first of it, and only a good object is left without work. The rest
 -- begins no work
-abbrev pub Works : Plan → Kind → Event → Place → Place → Type 0
+abbrev pub Works : HookPlan → Kind → Event → Place → Place → Type 0
 Works p k (events.Answered a) before after = work_left p k after ≡ work_due p k (stage_after k before a)
 Works p k events.Succeeded before after = (work_left p k after ≡ but_first (work_left p k before)) × IsGood after
 Works p k events.Failed before after = after ≡ failed before

@@ -6,7 +6,7 @@ use Rattle.pool_calls.specs.declared.action.Action.{Action}
 use Rattle.pool_calls.specs.declared.action.Action.TheVariants as actions
 use Rattle.pool_calls.specs.declared.kind.Kind.{Kind}
 use Rattle.pool_calls.specs.declared.kind.Kind.TheVariants as kinds
-use Rattle.pool_calls.specs.declared.plan.Plan.{Plan}
+use Rattle.pool_calls.specs.declared.hook_plan.HookPlan.{HookPlan}
 use Rattle.pool_calls.specs.declared.work.Task.{Task}
 use Rattle.pool_calls.specs.declared.work.Task.TheVariants as tasks
 use Rattle.pool_calls.specs.declared.work.Work.{Work}
@@ -37,7 +37,7 @@ allows w outcomes.TestFailed = w.test
 allows w outcomes.PassivateFailed = w.passivate
 
 -- the tasks on an object of a call. An object that the call makes is new
-abbrev pub work_of : Plan → Kind → Bool → Work
+abbrev pub work_of : HookPlan → Kind → Bool → Work
 work_of p (kinds.Borrow began) new = record { make = new; test_new = new && p.test_on_create; activate = p.activates; test = p.test_on_borrow; passivate = false }
 work_of p (kinds.Return i) new = record { make = false; test_new = false; activate = false; test = p.test_on_return; passivate = p.passivates }
 work_of p kinds.Add new = record { make = true; test_new = p.test_on_create; activate = false; test = false; passivate = p.passivates }

@@ -6,7 +6,7 @@ use Rattle.pool_journal.specs.declared.input.Outcome.TheVariants as outcomes
 use Rattle.pool_calls.specs.declared.kind.Kind.{Kind}
 use Rattle.pool_calls.specs.declared.kind.Kind.TheVariants as kinds
 use Rattle.pool_calls.specs.declared.operation.Operation.{Operation}
-use Rattle.pool_calls.specs.declared.plan.Plan.{Plan}
+use Rattle.pool_calls.specs.declared.hook_plan.HookPlan.{HookPlan}
 use Rattle.pool_calls.specs.declared.stage.Object.{Object}
 use Rattle.pool_calls.specs.declared.stage.Place.{Place}
 use Rattle.pool_calls.specs.declared.stage.Place.TheVariants as places
@@ -16,14 +16,14 @@ use Rattle.pool_calls.specs.declared.work.Task.{Task}
 use Rattle.pool_calls.specs.declared.work.Task.TheVariants as tasks
 use Rattle.pool_calls.specs.declared.operation.words.OperationWords.{OperationWords}
 use Rattle.pool_calls.specs.declared.words.PlaceWords.{PlaceWords}
-use Rattle.pool_calls.specs.declared.words.PlanWords.{PlanWords}
+use Rattle.pool_calls.specs.declared.words.HookPlanWords.{HookPlanWords}
 
 -- ---- the parts
 -- a flag is set
 abbrev pub is_set : ℕ → Bool
 is_set flag = not (flag == 0)
 
-abbrev pub plan_in : PlanWords → Plan
+abbrev pub plan_in : HookPlanWords → HookPlan
 plan_in w =
     record {
       remove_abandoned_on_borrow = is_set w.remove_abandoned_on_borrow;
@@ -103,7 +103,7 @@ pub record Reads (w : OperationWords) (op : Operation) : Type 0 where
   pub place : place_in (place_of w) ≡ Some op.place
   pub plan : plan_in w.plan ≡ op.plan
   pub given_up : is_set w.given_up ≡ op.given_up
-  pub tally : w.tally ≡ op.tally
+  pub counts : w.counts ≡ op.counts
 
 -- the numbers are those of no call
 abbrev pub ReadsNone : OperationWords → Type 0

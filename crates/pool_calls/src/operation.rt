@@ -6,7 +6,7 @@ ghost use Rattle.pool_calls.specs.Progress.{Takes};
 ghost use Rattle.pool_calls.specs.Rules as rules;
 ghost use Rattle.pool_calls.specs.Rules.{work_left, step_for};
 ghost use Rattle.pool_calls.specs.Steps.{is_borrow};
-ghost use Rattle.pool_calls.specs.Tallies.{tally_after};
+ghost use Rattle.pool_calls.specs.Counting.{counts_after};
 ghost use Rattle.pool_calls.specs.Turns.{Turn, step_of, asks_make, asks_room, asks_wait, is_done, is_full, IsFirst};
 
 mod after;
@@ -15,10 +15,10 @@ mod words;
 
 use crate::action::{Action, End, Event};
 use crate::answers::works;
+use crate::call_counts::CallCounts;
+use crate::hook_plan::HookPlan;
 use crate::kind::Kind;
-use crate::plan::Plan;
 use crate::stage::{Place, Request, Stage};
-use crate::tally::Tally;
 use crate::work::Task;
 use pool_journal::{Answer, Input, Outcome, When};
 pub use words::OperationWords;
@@ -30,9 +30,9 @@ pub use words::OperationWords;
 #[derive(Clone, Copy)]
 pub struct Operation {
     kind: Kind,
-    plan: Plan,
+    plan: HookPlan,
     given_up: bool,
-    tally: Tally,
+    counts: CallCounts,
     place: Place,
     ghost few_left: { given_up ≡ true → reports_left place ≤ 3 },
     ghost only_borrows_wait: { rules.is_waiting place ≡ true → is_borrow kind ≡ true },
@@ -43,7 +43,7 @@ impl Operation {
 
     /// Returns a call of this kind.
     #[tactic(auto, unfolding(crate::specs::Operations::HasCome))]
-    pub fn new(plan: Plan, kind: Kind) -> Operation
+    pub fn new(plan: HookPlan, kind: Kind) -> Operation
         ensures given { (result.plan ≡ plan) × (result.kind ≡ kind) × (result.given_up ≡ false) }
         ensures come { HasCome result [] }
         ensures first { step_at result ≡ Some (rules.first_step plan kind) }
@@ -57,7 +57,7 @@ impl Operation {
             kind,
             plan,
             given_up: false,
-            tally: Tally {
+            counts: CallCounts {
                 objects: 0,
                 freed: 0,
             },
@@ -73,10 +73,10 @@ impl Operation {
     }
 
     /// Returns what the call has come to.
-    pub fn tally(&self) -> Tally
-        ensures { result ≡ self.now.tally }
+    pub fn counts(&self) -> CallCounts
+        ensures { result ≡ self.now.counts }
     {
-        self.tally
+        self.counts
     }
 
     /// Returns the time at which a borrow began, in milliseconds; `None` of another call.
@@ -134,12 +134,12 @@ impl Operation {
 
     // The counts after an event.
     #[inline(always)]
-    fn tally_after(&self, event: Event) -> Tally
-        ensures { result ≡ tally_after self.now.kind event self.now.tally }
+    fn counts_after(&self, event: Event) -> CallCounts
+        ensures { result ≡ counts_after self.now.kind event self.now.counts }
     {
         match event {
-            Event::Answered(answer) => self.tally.with(self.kind, answer),
-            _ => self.tally,
+            Event::Answered(answer) => self.counts.with(self.kind, answer),
+            _ => self.counts,
         }
     }
 
@@ -155,7 +155,7 @@ impl Operation {
         ensures room { lacks_room self.new ≡ is_full event }
         ensures wait { is_waiting self.new ≡ comes_to_wait event self.old }
     {
-        self.tally = self.tally_after(event);
+        self.counts = self.counts_after(event);
         self.given_up = self.given_up || matches!(event, Event::Cancelled);
         self.place = place;
     }

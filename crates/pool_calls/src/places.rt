@@ -5,8 +5,8 @@ ghost use Rattle.pool_calls.specs.Rules as rules;
 ghost use Rattle.pool_calls.specs.Rules.{IsAt, failed, given_up_at};
 
 use crate::action::End;
+use crate::hook_plan::HookPlan;
 use crate::kind::Kind;
-use crate::plan::Plan;
 use crate::stage::{Object, Place, Stage};
 use crate::work::Task;
 use pool_journal::Outcome;
@@ -59,7 +59,7 @@ impl Place {
     // The place after a task that failed.
     pub(crate) fn failed(self) -> Place
         ensures place { result ≡ failed self }
-        ensures goes { (p : Plan) (k : Kind) (s : Stage) → IsAt p k self s → IsAt p k result s }
+        ensures goes { (p : HookPlan) (k : Kind) (s : Stage) → IsAt p k self s → IsAt p k result s }
         ensures left { rules.has_work self ≡ true → reports_left result < reports_left self }
         ensures rests { rules.has_work self ≡ true
             → (rules.lacks_room result ≡ false) × (rules.is_waiting result ≡ false) }
@@ -75,7 +75,7 @@ impl Place {
     // The place of a call that is given up.
     pub(crate) fn given_up(self) -> Place
         ensures place { result ≡ given_up_at self }
-        ensures goes { (p : Plan) (k : Kind) (s : Stage) → IsAt p k self s → IsAt p k result s }
+        ensures goes { (p : HookPlan) (k : Kind) (s : Stage) → IsAt p k self s → IsAt p k result s }
         ensures left { reports_left result ≤ 3 }
         ensures rests { (rules.lacks_room result ≡ false) × (rules.is_waiting result ≡ false) }
     {

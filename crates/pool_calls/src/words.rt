@@ -3,8 +3,8 @@ ghost use Rattle.std.specs.Prelude.{◌≡◌, false, Some};
 ghost use Rattle.pool_calls.specs.Rules.{is_over};
 ghost use Rattle.pool_calls.specs.Words.{is_set, kind_in, object_in, outcome_at, place_in, plan_in, request_in, task_at};
 
+use crate::hook_plan::HookPlan;
 use crate::kind::Kind;
-use crate::plan::Plan;
 use crate::stage::{Object, Place, Request};
 use crate::work::Task;
 use pool_journal::Outcome;
@@ -12,7 +12,7 @@ use pool_journal::Outcome;
 /// The plan of a call, with 0 for `false`.
 #[repr(C)]
 #[derive(Clone, Copy)]
-pub struct PlanWords {
+pub struct HookPlanWords {
     remove_abandoned_on_borrow: u8,
     test_on_create: u8,
     test_on_borrow: u8,
@@ -49,12 +49,12 @@ pub(crate) fn is_set(flag: u8) -> bool
     flag != 0
 }
 
-impl PlanWords {
+impl HookPlanWords {
     #[inline(always)]
-    pub(crate) fn of(plan: &Plan) -> PlanWords
+    pub(crate) fn of(plan: &HookPlan) -> HookPlanWords
         ensures { plan_in result ≡ plan.now }
     {
-        PlanWords {
+        HookPlanWords {
             remove_abandoned_on_borrow: flag(plan.remove_abandoned_on_borrow),
             test_on_create: flag(plan.test_on_create),
             test_on_borrow: flag(plan.test_on_borrow),
@@ -65,10 +65,10 @@ impl PlanWords {
     }
 
     #[inline(always)]
-    pub(crate) fn plan(&self) -> Plan
+    pub(crate) fn plan(&self) -> HookPlan
         ensures { result ≡ plan_in self.now }
     {
-        Plan {
+        HookPlan {
             remove_abandoned_on_borrow: is_set(self.remove_abandoned_on_borrow),
             test_on_create: is_set(self.test_on_create),
             test_on_borrow: is_set(self.test_on_borrow),

@@ -2,8 +2,8 @@
 ghost use Rattle.std.specs.Prelude.{◌≡◌, true, IfSome};
 ghost use Rattle.pool_calls.specs.Tasks.{failure_of, work_of, tasks_at, allows, in_order, from_test_new, from_activate, from_test, from_passivate, rest_after};
 
+use crate::hook_plan::HookPlan;
 use crate::kind::Kind;
-use crate::plan::Plan;
 use pool_journal::Outcome;
 
 /// A task of the factory.
@@ -42,7 +42,7 @@ pub struct Work {
     pub passivate: bool,
 }
 
-impl Plan {
+impl HookPlan {
     /// Returns the tasks on an object of a call. An object that the call makes is new.
     #[inline(always)]
     pub fn work(&self, kind: Kind, is_new: bool) -> Work

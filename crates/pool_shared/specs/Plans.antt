@@ -1,10 +1,10 @@
 -- What the rules of the calls have to know of a shared pool.
 use Rattle.std.specs.Prelude.{true}
 use Rattle.pool_settings.specs.declared.settings.Settings.{Settings}
-use Rattle.pool_calls.specs.declared.plan.Plan.{Plan}
+use Rattle.pool_calls.specs.declared.hook_plan.HookPlan.{HookPlan}
 
 -- the tests that the settings say, for a factory that activates, validates and passivates
-abbrev pub plan_of : Settings → Plan
+abbrev pub plan_of : Settings → HookPlan
 plan_of s =
     record {
       remove_abandoned_on_borrow = s.remove_abandoned_on_borrow;

@@ -1,7 +1,7 @@
 //! The commands of a script, and their words.
 
 use crate::error::LineError;
-use pool_driver::{Hooks, Options, Report};
+use pool_host::{Hooks, Options, Report};
 
 /// A command of a script.
 #[derive(Clone, Copy, Debug)]

@@ -3,7 +3,7 @@
 use crate::command::{Start, Turn};
 use crate::error::LineError;
 use pool_calls::{Action, Operation};
-use pool_driver::{Call, DrivenPool, Effects, Options, Report};
+use pool_host::{Call, Effects, HostedPool, Options, Report};
 use pool_settings::Settings;
 use std::alloc::{AllocError, Global};
 
@@ -27,7 +27,7 @@ pub(crate) struct Progress {
 /// A pool with its calls, at most one in a slot.
 #[derive(Drop)]
 pub(crate) struct Player {
-    pub(crate) pool: DrivenPool,
+    pub(crate) pool: HostedPool,
     slots: [Option<Begun>; SLOTS],
 }
 
@@ -38,7 +38,7 @@ impl Player {
         options: Options,
     ) -> Result<Player, AllocError> {
         Ok(Player {
-            pool: DrivenPool::open(alloc, settings, options)?,
+            pool: HostedPool::open(alloc, settings, options)?,
             slots: [None; SLOTS],
         })
     }

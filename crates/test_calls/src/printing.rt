@@ -2,7 +2,7 @@
 
 use crate::player::Progress;
 use pool_calls::{Action, End, Kind, Operation, StepFailure};
-use pool_driver::{DrivenPool, Effects};
+use pool_host::{Effects, HostedPool};
 use pool_journal::{Entry, print_entry};
 use std::alloc::Global;
 use std::io;
@@ -19,15 +19,15 @@ pub(crate) fn write_progress<W: Write>(out: &mut W, progress: Option<Progress>) 
 
 /// Writes what a call over several objects has come to.
 fn write_tally<W: Write>(out: &mut W, operation: Operation) -> io::Result<()> {
-    let tally = operation.tally();
+    let counts = operation.counts();
     match operation.kind() {
-        Kind::Fill => write_number(out, "made", tally.objects),
+        Kind::Fill => write_number(out, "made", counts.objects),
         Kind::Evict => {
-            write_number(out, "examined", tally.objects)?;
-            write_number(out, "destroyed", tally.freed)
+            write_number(out, "examined", counts.objects)?;
+            write_number(out, "destroyed", counts.freed)
         }
-        Kind::Reclaim => write_number(out, "reclaimed", tally.objects),
-        Kind::Clear | Kind::Close => write_number(out, "destroyed", tally.objects),
+        Kind::Reclaim => write_number(out, "reclaimed", counts.objects),
+        Kind::Clear | Kind::Close => write_number(out, "destroyed", counts.objects),
         _ => Ok(()),
     }
 }
@@ -118,7 +118,7 @@ pub(crate) fn write_journal<W: Write>(
 }
 
 /// Writes the tickets of the calls to wake.
-pub(crate) fn write_wakes<W: Write>(out: &mut W, pool: &mut DrivenPool) -> io::Result<()> {
+pub(crate) fn write_wakes<W: Write>(out: &mut W, pool: &mut HostedPool) -> io::Result<()> {
     let most = pool.waiting().saturating_add(1);
     for _ in 0..most {
         let Some(ticket) = pool.next_wake() else {
@@ -130,7 +130,7 @@ pub(crate) fn write_wakes<W: Write>(out: &mut W, pool: &mut DrivenPool) -> io::R
 }
 
 /// Writes the numbers of objects and of calls that wait.
-pub(crate) fn write_counts<W: Write>(out: &mut W, pool: &DrivenPool) -> io::Result<()> {
+pub(crate) fn write_counts<W: Write>(out: &mut W, pool: &HostedPool) -> io::Result<()> {
     let counts = pool.core().counts();
     write_numbers(
         out,

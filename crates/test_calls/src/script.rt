@@ -2,7 +2,7 @@
 
 use crate::command::{Command, command_of, options_of};
 use crate::error::{LineError, ScriptError};
-use pool_driver::Options;
+use pool_host::Options;
 use pool_settings::Settings;
 use std::alloc::Global;
 use std::io::{BufRead, BufReader, Read};

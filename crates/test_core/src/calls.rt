@@ -1,13 +1,13 @@
 //! Borrows and returns, action by action.
 
 use crate::checks::expect_equal;
-use pool_calls::{Action, End, Event, Kind, Operation, Plan, StepFailure};
+use pool_calls::{Action, End, Event, HookPlan, Kind, Operation, StepFailure};
 use pool_journal::{Answer, Cause, Input, Outcome, When};
 use std::process::Abort;
 
 // All hooks and tests are set, or none.
-fn plan(all: bool) -> Plan {
-    Plan {
+fn plan(all: bool) -> HookPlan {
+    HookPlan {
         remove_abandoned_on_borrow: all,
         test_on_create: all,
         test_on_borrow: all,

@@ -6,12 +6,12 @@ use Rattle.zuphinka.specs.declared.pool_options.PoolOptions.{PoolOptions}
 use Rattle.zuphinka.specs.declared.status.Status.{Status}
 use Rattle.zuphinka.specs.declared.status.Status.TheVariants.{Done, NotOpen, AlreadyOpen, OutOfMemory, JournalFull, BadRequest, NoEntry, NoRoom, NotText, NotToml, UnknownKey, WrongType, OutOfRange, NoCall, Misfit, NoWake, AtOnce}
 
-opened_core : (text : List ℕ) (o : PoolOptions) (p : OpenModel) → OpenedWith text o p → Opened text p.driven.core
+opened_core : (text : List ℕ) (o : PoolOptions) (p : OpenModel) → OpenedWith text o p → Opened text p.hosted.core
 opened_core text o p is = record {
-  settings = is.read ∙ ap Ok (sym is.driven.settings);
-  base = is.driven.base;
-  journal = is.driven.journal;
-  places = is.driven.places;
+  settings = is.read ∙ ap Ok (sym is.hosted.settings);
+  base = is.hosted.base;
+  journal = is.hosted.journal;
+  places = is.hosted.places;
 }
 
 pub opens_core : (text : List ℕ) (o : PoolOptions) (old new : Option OpenModel) (s : Status) → OpensWith text o old new s → Opens text (core_in old) (core_in new) s

@@ -1,6 +1,6 @@
 -- What a host reads of a call that began or went on: all, or of one that is over at once its object alone.
 use Rattle.std.proofs.Common.{◌≡◌, Bool, true, false, IsSomeAnd, refl}
-use Rattle.pool_driver.specs.declared.call.Call.{Call}
+use Rattle.pool_host.specs.declared.call.Call.{Call}
 use Rattle.zuphinka.specs.CallCodes.{kind_at}
 use Rattle.zuphinka.specs.Calling.{Advanced, AdvancesTo, Began, BeginsTo, is_quiet, read_of, status_told}
 use Rattle.zuphinka.specs.HostCalls.{Holds}

@@ -6,8 +6,8 @@ use Rattle.pool_calls.specs.declared.action.End.{End}
 use Rattle.pool_calls.specs.declared.action.End.TheVariants as ends
 use Rattle.pool_calls.specs.declared.action.StepFailure.{StepFailure}
 use Rattle.pool_calls.specs.declared.action.StepFailure.TheVariants as failures
-use Rattle.pool_driver.specs.declared.report.Report.{Report}
-use Rattle.pool_driver.specs.declared.report.Report.TheVariants as reports
+use Rattle.pool_host.specs.declared.report.Report.{Report}
+use Rattle.pool_host.specs.declared.report.Report.TheVariants as reports
 use Rattle.zuphinka.specs.declared.event.CallEvent.{CallEvent}
 use Rattle.zuphinka.specs.declared.starting.Kind.{Kind}
 use Rattle.zuphinka.specs.declared.starting.Kind.TheVariants as kinds

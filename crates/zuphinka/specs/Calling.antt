@@ -10,12 +10,12 @@ use Rattle.pool_core.specs.Reply.{reply_from}
 use Rattle.pool_calls.specs.Operations.{began_of, is_over, step_at}
 use Rattle.pool_calls.specs.Waiting.{IsSettled, Signals, most_overtaken}
 use Rattle.pool_calls.specs.declared.operation.Operation.{Operation}
-use Rattle.pool_driver.specs.Driving.{DrivenModel, Begins, available_in, detaches, fits_report}
-use Rattle.pool_driver.specs.Going.{WentOn}
-use Rattle.pool_driver.specs.declared.call.Call.{Call}
-use Rattle.pool_driver.specs.declared.effects.Effects.{Effects}
-use Rattle.pool_driver.specs.declared.report.Report.{Report}
-use Rattle.pool_driver.specs.declared.report.Report.TheVariants as reports
+use Rattle.pool_host.specs.Hosting.{HostedModel, Begins, available_in, detaches, fits_report}
+use Rattle.pool_host.specs.Going.{WentOn}
+use Rattle.pool_host.specs.declared.call.Call.{Call}
+use Rattle.pool_host.specs.declared.effects.Effects.{Effects}
+use Rattle.pool_host.specs.declared.report.Report.{Report}
+use Rattle.pool_host.specs.declared.report.Report.TheVariants as reports
 use Rattle.zuphinka.specs.CallCodes.{action_code, action_end, action_number, kind_at, report_of}
 use Rattle.zuphinka.specs.Opening.{OpenModel}
 use Rattle.zuphinka.specs.HostCalls.{Holds, HoldsNone, Keeps}
@@ -38,8 +38,8 @@ pub record IsReadAs (e : Effects) (op : Operation) (woken : Option ℕ) (out : C
   pub ticket : out.ticket ≡ unwrap_or e.ticket 0
   pub until : out.until ≡ unwrap_or e.until 0
   pub wake : out.wake ≡ unwrap_or woken 0
-  pub count : out.count ≡ op.tally.objects
-  pub freed : out.freed ≡ op.tally.freed
+  pub count : out.count ≡ op.counts.objects
+  pub freed : out.freed ≡ op.counts.freed
   pub action : out.action ≡ action_code e.action
   pub end : out.end ≡ action_end e.action
   pub has_ticket : out.has_ticket ≡ is_some e.ticket
@@ -47,15 +47,15 @@ pub record IsReadAs (e : Effects) (op : Operation) (woken : Option ℕ) (out : C
   pub has_wake : out.has_wake ≡ is_some woken
 
 -- the next ticket to wake is signalled, or none is to be
-abbrev pub Wakes : DrivenModel → DrivenModel → Option ℕ → Type 0
+abbrev pub Wakes : HostedModel → HostedModel → Option ℕ → Type 0
 Wakes old new None = (new ≡ record old { queue = record old.queue { signalled = new.queue.signalled } }) × IsSettled (available_in old.core) new.queue
 Wakes old new (Some ticket) =
     (new ≡ record old { queue = record old.queue { signalled = new.queue.signalled } }) × Signals (available_in old.core) old.queue new.queue ticket
 
 -- a call goes on after a report that fits what the host was asked to do, and C reads what it does next
-pub record GoesOn (caller at : ℕ) (report : Report) (old new : DrivenModel) (before after : Call) (out : CallEffects) : Type 0 where
+pub record GoesOn (caller at : ℕ) (report : Report) (old new : HostedModel) (before after : Call) (out : CallEffects) : Type 0 where
   pub effects : Effects
-  pub between : DrivenModel  -- before a call is woken
+  pub between : HostedModel  -- before a call is woken
   pub wake : Option ℕ
   pub went : WentOn report caller (max at old.last) old between before after effects
   pub wakes : Wakes between new wake
@@ -104,12 +104,12 @@ running_after is n = if is then n else n - 1
 -- a call of this kind has begun
 pub record Began (start : CallStart) (old new : OpenModel) (host : HostCall) (out : CallEffects) (kind : Kind) : Type 0 where
   pub first : Call
-  pub begins : Begins old.driven.plan first
-  pub is : IsKind start old.driven.last kind first
+  pub begins : Begins old.hosted.plan first
+  pub is : IsKind start old.hosted.last kind first
   pub call : Call
-  pub goes : GoesOn start.caller start.at reports.GoOn old.driven new.driven first call out
+  pub goes : GoesOn start.caller start.at reports.GoOn old.hosted new.hosted first call out
   pub keeps : Keeps (is_over call.operation) old.number host call
-  pub rest : new ≡ record old { driven = new.driven; running = running_with (not (is_over call.operation)) old.running }
+  pub rest : new ≡ record old { hosted = new.hosted; running = running_with (not (is_over call.operation)) old.running }
 
 -- the result of beginning a call of an open pool
 abbrev pub BeginsTo : CallStart → OpenModel → OpenModel → HostCall → HostCall → CallEffects → CallEffects → Status → Type 0
@@ -125,9 +125,9 @@ pub record Advanced (event : CallEvent) (old new : OpenModel) (host : HostCall) 
   pub report : Report
   pub reported : report_of event ≡ Some report
   pub call : Call
-  pub goes : GoesOn event.caller event.at report old.driven new.driven before call out
+  pub goes : GoesOn event.caller event.at report old.hosted new.hosted before call out
   pub keeps : Keeps (is_over call.operation) old.number host call
-  pub rest : new ≡ record old { driven = new.driven; running = running_after (not (is_over call.operation)) old.running }
+  pub rest : new ≡ record old { hosted = new.hosted; running = running_after (not (is_over call.operation)) old.running }
 
 -- the result of a report to an open pool
 abbrev pub AdvancesTo : CallEvent → OpenModel → OpenModel → HostCall → HostCall → CallEffects → CallEffects → Status → Type 0
@@ -145,20 +145,20 @@ AdvancesTo event old new host host' out out' _ = ⊥
 -- ---- wakes and the state
 -- the result of asking an open pool for the next call to wake
 abbrev pub WakesTo : OpenModel → OpenModel → ℕ → ℕ → Status → Type 0
-WakesTo old new ticket ticket' Done = Wakes old.driven new.driven (Some ticket') × (new ≡ record old { driven = new.driven })
-WakesTo old new ticket ticket' NoWake = Wakes old.driven new.driven None × (new ≡ record old { driven = new.driven }) × (ticket' ≡ ticket)
+WakesTo old new ticket ticket' Done = Wakes old.hosted new.hosted (Some ticket') × (new ≡ record old { hosted = new.hosted })
+WakesTo old new ticket ticket' NoWake = Wakes old.hosted new.hosted None × (new ≡ record old { hosted = new.hosted }) × (ticket' ≡ ticket)
 WakesTo old new ticket ticket' _ = ⊥
 
 -- the numbers of calls, and whether the pool is closed
 pub record ReportsState (p : OpenModel) (reported : PoolState) : Type 0 where
-  pub waiting : reported.waiting ≡ length p.driven.queue.waiting
+  pub waiting : reported.waiting ≡ length p.hosted.queue.waiting
   pub running : reported.running ≡ p.running
-  pub closed : reported.is_closed ≡ closed_from p.driven.core.base p.driven.core.journal
+  pub closed : reported.is_closed ≡ closed_from p.hosted.core.base p.hosted.core.journal
 
 -- each call that has waited for so long is overtaken at most so often from now on, or as often as the oldest one was
 pub record LimitsOvertakes (millis most : ℕ) (old new : OpenModel) (bound : ℕ) : Type 0 where
-  pub is : bound ≡ max most (most_overtaken old.driven.queue.waiting)
-  pub rest : new ≡ record old { driven = record old.driven { queue = record old.driven.queue { millis = millis; most = bound } } }
+  pub is : bound ≡ max most (most_overtaken old.hosted.queue.waiting)
+  pub rest : new ≡ record old { hosted = record old.hosted { queue = record old.hosted.queue { millis = millis; most = bound } } }
 
 -- the object is lent, by what is expected of its return
 abbrev pub ends_loan : Answer → Bool
@@ -168,7 +168,7 @@ ends_loan _ = true
 
 -- the object with this id is lent
 abbrev pub is_lent_in : OpenModel → ℕ → Bool
-is_lent_in p id = ends_loan (reply_from p.driven.core.settings p.driven.core.base p.driven.core.journal 0 (inputs.GiveBack id))
+is_lent_in p id = ends_loan (reply_from p.hosted.core.settings p.hosted.core.base p.hosted.core.journal 0 (inputs.GiveBack id))
 
 -- ---- handles
 -- the result of beginning a call of the pool in a handle

@@ -15,7 +15,7 @@ use Rattle.pool_core.specs.Legal.{expected_entry_from}
 use Rattle.pool_core.specs.Pool.{CoreModel, IsConsistent}
 use Rattle.pool_core.specs.Reply.{reply_from}
 use Rattle.pool_core.specs.Steps.{keeps_value}
-use Rattle.pool_driver.specs.Driving as driver
+use Rattle.pool_host.specs.Hosting as host
 use Rattle.zuphinka.specs.Codes.{input_of, reply_of}
 use Rattle.zuphinka.specs.Lines.{TextTo, entry_line, base_line}
 use Rattle.zuphinka.specs.Opening.{OpenModel, options_of}
@@ -61,7 +61,7 @@ Opens text (Some pool) new s = (s ≡ AlreadyOpen) × (new ≡ Some pool)
 pub record OpenedWith (text : List ℕ) (options : PoolOptions) (pool : OpenModel) : Type 0 where
   pub settings : Settings
   pub read : settings_of_text text ≡ Ok settings
-  pub driven : driver.Opened settings (options_of options) pool.driven
+  pub hosted : host.Opened settings (options_of options) pool.hosted
   pub number : pool.number ≡ options.pool
   pub hooks : pool.hooks ≡ (options_of options).hooks
   pub running : pool.running ≡ 0

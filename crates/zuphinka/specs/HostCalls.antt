@@ -1,7 +1,7 @@
 -- The calls in progress that hosts keep.
 use Rattle.std.specs.Prelude.{◌≡◌, ℕ, Bool, true, false}
-use Rattle.pool_driver.specs.declared.call.Call.{Call}
-use Rattle.pool_driver.specs.Words.{Reads}
+use Rattle.pool_host.specs.declared.call.Call.{Call}
+use Rattle.pool_host.specs.Words.{Reads}
 use Rattle.zuphinka.specs.declared.host_call.HostCall.{HostCall}
 
 -- the mark of a struct that has a call in progress: the bytes `zuphinka`

@@ -6,7 +6,7 @@ use Rattle.pool_journal.specs.Base.{base_after}
 use Rattle.pool_core.specs.Reconfigured.{IsRefused}
 use Rattle.pool_core.specs.declared.reconfigure_error.ReconfigureError.{ReconfigureError}
 use Rattle.pool_core.specs.declared.reconfigure_error.ReconfigureError.TheVariants as errors
-use Rattle.pool_driver.specs.Driving.{reconfigured_with}
+use Rattle.pool_host.specs.Hosting.{reconfigured_with}
 use Rattle.zuphinka.specs.Calls.{HasFault}
 use Rattle.zuphinka.specs.Opening.{OpenModel}
 use Rattle.zuphinka.specs.declared.status.Status.{Status}
@@ -16,13 +16,13 @@ use Rattle.zuphinka.specs.declared.status.Status.TheVariants.{Done, NotOpen, Out
 pub record IsReconfigured (text : List ℕ) (old new : OpenModel) : Type 0 where
   pub settings : Settings
   pub read : settings_of_text text ≡ Ok settings
-  pub goes_on : new ≡ record old { driven = reconfigured_with settings old.hooks old.driven }
+  pub goes_on : new ≡ record old { hosted = reconfigured_with settings old.hooks old.hosted }
 
 -- the text has settings, and the condition of this error applies
 pub record IsDueFor (text : List ℕ) (old : OpenModel) (e : ReconfigureError) : Type 0 where
   pub settings : Settings
   pub read : settings_of_text text ≡ Ok settings
-  pub refused : IsRefused settings (base_after old.driven.core.base old.driven.core.journal) e
+  pub refused : IsRefused settings (base_after old.hosted.core.base old.hosted.core.journal) e
 
 -- the result for an open pool
 abbrev pub ReconfiguresTo : List ℕ → OpenModel → OpenModel → Status → Type 0

@@ -1,10 +1,10 @@
 //! How each call of a pool for C goes on after a report.
 ghost use Rattle.std.specs.Prelude.{◌≡◌, ℕ, Some, max, not};
 ghost use Rattle.pool_calls.specs.Operations.{is_over};
-ghost use Rattle.pool_driver.specs.Driving.{DrivenModel};
-ghost use Rattle.pool_driver.specs.Going.{WentOn};
-ghost use Rattle.pool_driver.specs.declared.call.Call.{Call};
-ghost use Rattle.pool_driver.specs.declared.report.Report.{Report};
+ghost use Rattle.pool_host.specs.Hosting.{HostedModel};
+ghost use Rattle.pool_host.specs.Going.{WentOn};
+ghost use Rattle.pool_host.specs.declared.call.Call.{Call};
+ghost use Rattle.pool_host.specs.declared.report.Report.{Report};
 ghost use Rattle.zuphinka.specs.CallCodes.{report_of};
 ghost use Rattle.zuphinka.specs.Calling.{Advanced, AdvancesTo, GoesOn, running_after};
 ghost use Rattle.zuphinka.specs.HostCalls.{Keeps};
@@ -16,7 +16,7 @@ use crate::event::CallEvent;
 use crate::host_call::HostCall;
 use crate::open_pool::OpenPool;
 use crate::status::Status;
-use pool_driver::{Call, Effects, Report};
+use pool_host::{Call, Effects, Report};
 use pool_journal::Answer;
 
 // The number of calls in progress after one of them went on.
@@ -40,14 +40,14 @@ impl OpenPool {
         made: &Effects,
         host: &mut HostCall,
     ) -> (CallEffects, bool)
-        ensures goes { (report : Report) (caller at : ℕ) (old : DrivenModel) (before : Call)
-            → WentOn report caller (max at old.last) old self.old.driven before call.now made.now
-            → GoesOn caller at report old self.new.driven before call.now result.0 }
+        ensures goes { (report : Report) (caller at : ℕ) (old : HostedModel) (before : Call)
+            → WentOn report caller (max at old.last) old self.old.hosted before call.now made.now
+            → GoesOn caller at report old self.new.hosted before call.now result.0 }
         ensures keeps { Keeps (is_over call.now.operation) self.old.number host.new call.now }
         ensures running { result.1 ≡ not (is_over call.now.operation) }
-        ensures rest { self.new ≡ record self.old { driven = self.new.driven } }
+        ensures rest { self.new ≡ record self.old { hosted = self.new.hosted } }
     {
-        let wake = self.driven.next_wake();
+        let wake = self.hosted.next_wake();
         let told = CallEffects::of(made, &call.operation(), wake);
         (told, host.keep(self.number, call))
     }
@@ -57,8 +57,8 @@ impl OpenPool {
     fn advanced(&mut self, call: &Call, made: &Effects, host: &mut HostCall) -> CallEffects
         ensures { (event : CallEvent) (report : Report) (old : OpenModel) (before : Call)
             → report_of event ≡ Some report
-            → WentOn report event.caller (max event.at old.driven.last) old.driven
-            self.old.driven before call.now made.now → self.old ≡ record old { driven = self.old.driven }
+            → WentOn report event.caller (max event.at old.hosted.last) old.hosted
+            self.old.hosted before call.now made.now → self.old ≡ record old { hosted = self.old.hosted }
             → Advanced event old self.new host.new result before }
     {
         let (told, is_running) = self.told(call, made, host);
@@ -85,7 +85,7 @@ impl OpenPool {
             return Status::BadRequest;
         };
         match self
-            .driven
+            .hosted
             .advance(&mut call, event.caller, event.at, report)
         {
             Some(made) => {
@@ -122,7 +122,7 @@ impl OpenPool {
             Answer::Parked
         };
         match self
-            .driven
+            .hosted
             .end_by::<IS_BORROW>(&mut call, event.caller, event.at, answer)
         {
             Some(made) => self.advanced(&call, &made, host).tell(effects),

@@ -1,8 +1,8 @@
 //! How each call of a pool for C begins.
 ghost use Rattle.std.specs.Prelude.{◌≡◌, max, Some};
-ghost use Rattle.pool_driver.specs.Driving.{Begins};
-ghost use Rattle.pool_driver.specs.Going.{WentOn};
-ghost use Rattle.pool_driver.specs.declared.report.Report.TheVariants as reports;
+ghost use Rattle.pool_host.specs.Hosting.{Begins};
+ghost use Rattle.pool_host.specs.Going.{WentOn};
+ghost use Rattle.pool_host.specs.declared.report.Report.TheVariants as reports;
 ghost use Rattle.zuphinka.specs.CallCodes.{kind_at};
 ghost use Rattle.zuphinka.specs.Calling.{Began, BeginsTo, IsKind};
 ghost use Rattle.zuphinka.specs.Opening.{OpenModel};
@@ -12,7 +12,7 @@ use crate::host_call::HostCall;
 use crate::open_pool::{OpenPool, running_with};
 use crate::starting::{CallStart, Kind};
 use crate::status::Status;
-use pool_driver::{Call, Effects, Report};
+use pool_host::{Call, Effects, Report};
 
 impl OpenPool {
     // Begins a call of this kind.
@@ -29,9 +29,9 @@ impl OpenPool {
         ensures { BeginsTo start.now self.old self.new host.old host.new effects.old effects.new
             result }
     {
-        let mut call = start.call(&self.driven, kind);
+        let mut call = start.call(&self.hosted, kind);
         let (caller, at) = (start.caller, start.at);
-        match self.driven.advance(&mut call, caller, at, Report::GoOn) {
+        match self.hosted.advance(&mut call, caller, at, Report::GoOn) {
             Some(made) => {
                 *effects = self.begun(&call, &made, host);
                 Status::Done
@@ -44,9 +44,9 @@ impl OpenPool {
     #[inline(always)]
     fn begun(&mut self, call: &Call, made: &Effects, host: &mut HostCall) -> CallEffects
         ensures { (start : CallStart) (old : OpenModel) (first : Call) (kind : Kind)
-            → Begins old.driven.plan first → IsKind start old.driven.last kind first
-            → WentOn reports.GoOn start.caller (max start.at old.driven.last) old.driven
-            self.old.driven first call.now made.now → self.old ≡ record old { driven = self.old.driven }
+            → Begins old.hosted.plan first → IsKind start old.hosted.last kind first
+            → WentOn reports.GoOn start.caller (max start.at old.hosted.last) old.hosted
+            self.old.hosted first call.now made.now → self.old ≡ record old { hosted = self.old.hosted }
             → Began start old self.new host.new result kind }
     {
         let (told, is_running) = self.told(call, made, host);
@@ -66,8 +66,8 @@ impl OpenPool {
         ensures { BeginsTo start.now self.old self.new host.old host.new effects.old effects.new
             result }
     {
-        let mut call = start.call(&self.driven, Kind::Borrow);
-        match self.driven.begin_taken(&mut call, start.caller, start.at) {
+        let mut call = start.call(&self.hosted, Kind::Borrow);
+        match self.hosted.begin_taken(&mut call, start.caller, start.at) {
             Some(made) => {
                 *effects = self.begun(&call, &made, host);
                 Status::Done
@@ -88,8 +88,8 @@ impl OpenPool {
         ensures { BeginsTo start.now self.old self.new host.old host.new effects.old effects.new
             result }
     {
-        let mut call = start.call(&self.driven, Kind::Return);
-        match self.driven.begin_checked(&mut call, start.caller, start.at) {
+        let mut call = start.call(&self.hosted, Kind::Return);
+        match self.hosted.begin_checked(&mut call, start.caller, start.at) {
             Some(made) => {
                 *effects = self.begun(&call, &made, host);
                 Status::Done
@@ -110,8 +110,8 @@ impl OpenPool {
         ensures { BeginsTo start.now self.old self.new host.old host.new effects.old effects.new
             result }
     {
-        let mut call = start.call(&self.driven, Kind::Borrow);
-        match self.driven.begin_lent(&mut call, start.caller, start.at) {
+        let mut call = start.call(&self.hosted, Kind::Borrow);
+        match self.hosted.begin_lent(&mut call, start.caller, start.at) {
             Some(made) => self.begun(&call, &made, host).tell(effects),
             None => self.begin_as(start, Kind::Borrow, host, effects),
         }
@@ -129,8 +129,8 @@ impl OpenPool {
         ensures { BeginsTo start.now self.old self.new host.old host.new effects.old effects.new
             result }
     {
-        let mut call = start.call(&self.driven, Kind::Return);
-        match self.driven.begin_parked(&mut call, start.caller, start.at) {
+        let mut call = start.call(&self.hosted, Kind::Return);
+        match self.hosted.begin_parked(&mut call, start.caller, start.at) {
             Some(made) => self.begun(&call, &made, host).tell(effects),
             None => self.begin_as(start, Kind::Return, host, effects),
         }
@@ -148,7 +148,7 @@ impl OpenPool {
         ensures { BeginsTo start.now self.old self.new host.old host.new effects.old effects.new
             result }
     {
-        if self.driven.asks_at_borrow() {
+        if self.hosted.asks_at_borrow() {
             self.begin_taken(start, host, effects)
         } else {
             self.begin_lent(start, host, effects)
@@ -167,7 +167,7 @@ impl OpenPool {
         ensures { BeginsTo start.now self.old self.new host.old host.new effects.old effects.new
             result }
     {
-        if self.driven.asks_at_return() {
+        if self.hosted.asks_at_return() {
             self.begin_checked(start, host, effects)
         } else {
             self.begin_parked(start, host, effects)

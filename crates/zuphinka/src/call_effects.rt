@@ -5,7 +5,7 @@ ghost use Rattle.zuphinka.specs.Calling.{IsReadAs, is_quiet, read_of, status_tol
 
 use crate::status::Status;
 use pool_calls::{Action, End, Operation, StepFailure};
-use pool_driver::Effects;
+use pool_host::Effects;
 
 /// What the host does next, as C reads it.
 #[repr(C)]
@@ -141,15 +141,15 @@ impl CallEffects {
         let has_ticket = effects.ticket.is_some();
         let has_until = effects.until.is_some();
         let has_wake = wake.is_some();
-        let tally = operation.tally();
+        let counts = operation.counts();
         CallEffects {
             number: number_of_action(effects.action),
             object: effects.token,
             ticket: effects.ticket.unwrap_or(0),
             until: effects.until.unwrap_or(0),
             wake: wake.unwrap_or(0),
-            count: tally.objects,
-            freed: tally.freed,
+            count: counts.objects,
+            freed: counts.freed,
             action: code_of_action(effects.action),
             end: end_of_action(effects.action),
             has_ticket,

@@ -2,7 +2,7 @@
 ghost use Rattle.std.specs.Prelude.{◌≡◌};
 ghost use Rattle.zuphinka.specs.CallCodes.{plain_report, report_of};
 
-use pool_driver::Report;
+use pool_host::Report;
 
 /// What became of the last action of a call. The report determines which fields are read.
 #[repr(C)]

@@ -2,7 +2,7 @@
 ghost use Rattle.std.specs.Prelude.{◌≡◌, not, IfSome, IfNone};
 ghost use Rattle.pool_calls.specs.Operations.{is_over};
 
-use pool_driver::{Call, CallWords};
+use pool_host::{Call, CallWords};
 use pool_journal::Answer;
 
 /// The mark of a struct that has a call in progress: the bytes `zuphinka`.

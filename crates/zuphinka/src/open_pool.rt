@@ -1,6 +1,6 @@
 //! A pool for C: what each export of the library works on.
 ghost use Rattle.std.specs.Prelude.{◌≡◌, IfOk};
-ghost use Rattle.pool_driver.specs.Driving.{Opened};
+ghost use Rattle.pool_host.specs.Hosting.{Opened};
 ghost use Rattle.zuphinka.specs.Calling.{LimitsOvertakes, ReportsState, WakesTo, ends_loan, is_lent_in, running_with};
 ghost use Rattle.zuphinka.specs.Opening.{options_of};
 
@@ -8,7 +8,7 @@ use crate::pool_options::PoolOptions;
 use crate::pool_state::PoolState;
 use crate::status::Status;
 use pool_core::Recorder;
-use pool_driver::{DrivenPool, Hooks};
+use pool_host::{Hooks, HostedPool};
 use pool_journal::{Answer, Input};
 use pool_settings::Settings;
 use std::alloc::{AllocError, Global};
@@ -17,7 +17,7 @@ use std::marker::Model;
 /// A pool for C.
 #[derive(Drop)]
 pub struct OpenPool {
-    pub(crate) driven: DrivenPool,
+    pub(crate) hosted: HostedPool,
     // The number of calls in progress.
     pub(crate) running: u64,
     // The host's number of the pool.
@@ -32,7 +32,7 @@ impl Model for OpenPool {
     ghost Value = { OpenModel };
 
     ghost view = { λ p. record {
-      driven = p.driven;
+      hosted = p.hosted;
       running = p.running;
       number = p.number;
       hooks = p.hooks;
@@ -69,14 +69,14 @@ impl OpenPool {
         settings: Settings,
         options: &PoolOptions,
     ) -> Result<OpenPool, AllocError>
-        ensures driven { IfOk result
-            (λ p. Opened settings (options_of options.now) p.driven) }
+        ensures hosted { IfOk result
+            (λ p. Opened settings (options_of options.now) p.hosted) }
         ensures number { IfOk result (λ p. p.number ≡ options.now.pool) }
         ensures hooks { IfOk result (λ p. p.hooks ≡ (options_of options.now).hooks) }
         ensures running { IfOk result (λ p. p.running ≡ 0) }
     {
         Ok(OpenPool {
-            driven: DrivenPool::open(alloc, settings, options.options())?,
+            hosted: HostedPool::open(alloc, settings, options.options())?,
             running: 0,
             number: options.pool,
             hooks: options.options().hooks,
@@ -85,16 +85,16 @@ impl OpenPool {
 
     /// Returns the pool with its journal.
     pub(crate) fn core(&self) -> &Recorder<u64>
-        ensures { result.now ≡ self.now.driven.core }
+        ensures { result.now ≡ self.now.hosted.core }
     {
-        self.driven.core()
+        self.hosted.core()
     }
 
     /// Stores the ticket of the next call to wake, if there is one.
     pub(crate) fn next_wake(&mut self, ticket: &mut u64) -> Status
         ensures { WakesTo self.old self.new ticket.old ticket.new result }
     {
-        match self.driven.next_wake() {
+        match self.hosted.next_wake() {
             Some(next) => {
                 *ticket = next;
                 Status::Done
@@ -108,14 +108,14 @@ impl OpenPool {
     pub(crate) fn limit_overtakes(&mut self, millis: u64, most: u64) -> u64
         ensures { LimitsOvertakes millis most self.old self.new result }
     {
-        self.driven.limit_overtakes(millis, most)
+        self.hosted.limit_overtakes(millis, most)
     }
 
     /// Returns whether the object with this id is lent.
     pub(crate) fn is_lent(&self, id: u64) -> bool
         ensures { result ≡ is_lent_in self.now id }
     {
-        ends_loan(self.driven.core().due(0, Input::GiveBack { id }))
+        ends_loan(self.hosted.core().due(0, Input::GiveBack { id }))
     }
 
     /// Returns what is true of the pool besides its counts.
@@ -123,9 +123,9 @@ impl OpenPool {
         ensures { ReportsState self.now result }
     {
         PoolState {
-            waiting: self.driven.waiting() as u64,
+            waiting: self.hosted.waiting() as u64,
             running: self.running,
-            is_closed: self.driven.is_closed(),
+            is_closed: self.hosted.is_closed(),
         }
     }
 }

@@ -2,7 +2,7 @@
 ghost use Rattle.std.specs.Prelude.{◌≡◌};
 ghost use Rattle.zuphinka.specs.Opening.{no_options, options_of};
 
-use pool_driver::{Hooks, Options};
+use pool_host::{Hooks, Options};
 
 /// How a pool works besides its settings, as C passes it.
 #[repr(C)]

@@ -2,11 +2,11 @@
 ghost use Rattle.std.specs.Prelude.{◌≡◌, true};
 ghost use Rattle.std.specs.Option.{is_some};
 ghost use Rattle.pool_calls.specs.Operations.{step_at};
-ghost use Rattle.pool_driver.specs.Driving.{Begins};
+ghost use Rattle.pool_host.specs.Hosting.{Begins};
 ghost use Rattle.zuphinka.specs.CallCodes.{kind_at};
 ghost use Rattle.zuphinka.specs.Calling.{IsKind};
 
-use pool_driver::{Call, DrivenPool};
+use pool_host::{Call, HostedPool};
 
 /// What a call is.
 #[derive(Clone, Copy)]
@@ -77,7 +77,7 @@ impl CallStart {
 
     /// Returns a call of this kind, which begins.
     #[inline(always)]
-    pub(crate) fn call(&self, pool: &DrivenPool, kind: Kind) -> Call
+    pub(crate) fn call(&self, pool: &HostedPool, kind: Kind) -> Call
         ensures begins { Begins pool.now.plan result }
         ensures is { IsKind self.now pool.now.last kind result }
         ensures steps { is_some (step_at result.operation) ≡ true }

@@ -23,14 +23,14 @@ impl Operation {
     #[inline(always)]
     fn ended(&self, end: End) -> Operation
         ensures given { (result.kind ≡ self.now.kind) × (result.plan ≡ self.now.plan)
-            × (result.given_up ≡ self.now.given_up) × (result.tally ≡ self.now.tally) }
+            × (result.given_up ≡ self.now.given_up) × (result.counts ≡ self.now.counts) }
         ensures place { result.place ≡ Place.Ended end }
     {
         Operation {
             kind: self.kind,
             plan: self.plan,
             given_up: self.given_up,
-            tally: self.tally,
+            counts: self.counts,
             place: Place::Ended(end),
         }
     }

@@ -5,9 +5,9 @@ ghost use Rattle.pool_calls.specs.Operations.{is_over};
 ghost use Rattle.pool_calls.specs.Words.{Reads, ReadsNone, place_of};
 
 use super::Operation;
+use crate::call_counts::CallCounts;
 use crate::stage::Place;
-use crate::tally::Tally;
-use crate::words::{PlaceWords, PlanWords, flag, is_set, kind_in, words_of_kind};
+use crate::words::{HookPlanWords, PlaceWords, flag, is_set, kind_in, words_of_kind};
 use pool_journal::Answer;
 
 /// A call in progress as plain numbers.
@@ -17,10 +17,10 @@ pub struct OperationWords {
     // The object of the place.
     id: u64,
     left: u64,
-    tally: Tally,
+    counts: CallCounts,
     // The time or the id of the kind; 0 if it has none.
     number: u64,
-    plan: PlanWords,
+    plan: HookPlanWords,
     given_up: u8,
     is_new: u8,
     // The codes of the place, of its request, task or outcome, and of the kind.
@@ -44,9 +44,9 @@ impl Operation {
         Some(OperationWords {
             id: place.id,
             left: place.left,
-            tally: self.tally,
+            counts: self.counts,
             number,
-            plan: PlanWords::of(&self.plan),
+            plan: HookPlanWords::of(&self.plan),
             given_up: flag(self.given_up),
             is_new: place.is_new,
             place: place.code,
@@ -100,7 +100,7 @@ impl OperationWords {
             kind,
             plan: self.plan.plan(),
             given_up,
-            tally: self.tally,
+            counts: self.counts,
             place,
         })
     }

@@ -1,7 +1,7 @@
 use Rattle.std.proofs.Common.{ap, sym, ◌∙◌}
 use Rattle.pool_calls.specs.Operations.{HasCome}
-use Rattle.pool_calls.specs.Tallies.{tally_after}
-use Rattle.pool_calls.proofs.Coming.{comes_on, tally_on, waiting_borrows}
+use Rattle.pool_calls.specs.Counting.{counts_after}
+use Rattle.pool_calls.proofs.Coming.{comes_on, counts_on, waiting_borrows}
 use Rattle.pool_calls.proofs.operation.Operation.move_to.Goals as goal
 
 pub returns-clause-comes : goal.returns-clause-comes
@@ -13,7 +13,7 @@ returns-clause-comes c turns come =
     record {
       expected = reached.0;
       at = reached.1;
-      tally = c.tally_after-self.ensures ∙ ap (tally_after op.kind c.args.event) come.tally ∙ tally_on op.kind c.args.event op.given_up op.place turns fits;
+      counts = c.counts_after-self.ensures ∙ ap (counts_after op.kind c.args.event) come.counts ∙ counts_on op.kind c.args.event op.given_up op.place turns fits;
     }
 
 pub invariant_of-self-clause-only_borrows_wait : goal.invariant_of-self-clause-only_borrows_wait

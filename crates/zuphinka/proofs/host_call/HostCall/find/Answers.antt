@@ -1,6 +1,6 @@
 use Rattle.std.proofs.Common.{Option, Some, None, IfNone}
-use Rattle.pool_driver.specs.declared.call.Call.{Call}
-use Rattle.pool_driver.specs.Words.{ReadsNone}
+use Rattle.pool_host.specs.declared.call.Call.{Call}
+use Rattle.pool_host.specs.Words.{ReadsNone}
 use Rattle.zuphinka.specs.HostCalls.{HoldsNone}
 use Rattle.zuphinka.proofs.host_call.HostCall.find.Goals as goal
 

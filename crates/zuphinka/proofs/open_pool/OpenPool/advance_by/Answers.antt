@@ -1,6 +1,6 @@
 use Rattle.std.proofs.Common.{◌∙◌, Some, ap, refl, sym, subst}
-use Rattle.pool_driver.specs.Driving.{DrivenModel}
-use Rattle.pool_driver.specs.declared.report.Report.TheVariants as reports
+use Rattle.pool_host.specs.Hosting.{HostedModel}
+use Rattle.pool_host.specs.declared.report.Report.TheVariants as reports
 use Rattle.zuphinka.specs.Calling.{AdvancesTo, is_quiet, read_of, status_told}
 use Rattle.zuphinka.specs.Opening.{OpenModel}
 use Rattle.zuphinka.specs.declared.call_effects.CallEffects.{CallEffects}
@@ -11,7 +11,7 @@ use Rattle.zuphinka.proofs.open_pool.OpenPool.advance_by.Goals as goal
 pub returns-in-Some-end_by : goal.returns-in-Some-end_by
 returns-in-Some-end_by g c =
     let event = c.args.event.now in
-    let old : OpenModel = record { driven = c.self.inside.driven; running = c.self.inside.running; number = c.self.inside.number; hooks = c.self.inside.hooks } in
+    let old : OpenModel = record { hosted = c.self.inside.hosted; running = c.self.inside.running; number = c.self.inside.number; hooks = c.self.inside.hooks } in
     let last = c.advanced.new in
     let told = c.advanced.result in
     let quiet = is_quiet told in
@@ -27,7 +27,7 @@ returns-in-Some-end_by g c =
 pub returns-in-None : goal.returns-in-None
 returns-in-None g c =
     let old = c.self.inside in
-    let same : DrivenModel → OpenModel = λ d. record { driven = d; running = old.running; number = old.number; hooks = old.hooks } in
+    let same : HostedModel → OpenModel = λ d. record { hosted = d; running = old.running; number = old.number; hooks = old.hooks } in
     let last = c.advance_any-in-None.new in
     let P : OpenModel → Type 0 = λ p. AdvancesTo c.args.event.now p last.self c.args.host.now last.host c.args.effects.now last.effects c.advance_any-in-None.result in
     subst P (ap same c.in-None.ensures.unchanged.0 ∙ c.self.view_is) c.advance_any-in-None.ensures

@@ -11,7 +11,7 @@ returns c event report old before reported went same =
     let did = c.told-is_running.ensures in
     let over = is_over c.args.call.now.operation in
     let n : ℕ = c.running_after-self-inside.result in
-    let kept = did.rest ∙ ap (λ (s : OpenModel). record s { driven = told.self.driven }) same in
+    let kept = did.rest ∙ ap (λ (s : OpenModel). record s { hosted = told.self.hosted }) same in
     let counted = c.running_after-self-inside.ensures ∙ ap (λ (is : Bool). running_after is c.self.inside.running) did.running ∙ ap (λ (s : OpenModel). running_after (not over) s.running) (c.self.view_is ∙ kept) in
     let N : ℕ → Type 0 = λ m. Keeps over m told.host c.args.call.now in
     let P : OpenModel → Type 0 = λ s. Advanced event old (record s { running = n }) told.host c.told-is_running.result.0 before in
@@ -19,7 +19,7 @@ returns c event report old before reported went same =
       report = report;
       reported = reported;
       call = c.args.call.now;
-      goes = did.goes report event.caller event.at old.driven before went;
+      goes = did.goes report event.caller event.at old.hosted before went;
       keeps = subst N (ap (λ (s : OpenModel). s.number) same) did.keeps;
-      rest = ap (λ (s : OpenModel). record s { running = n }) kept ∙ ap (λ (m : ℕ). record old { driven = told.self.driven; running = m }) counted;
+      rest = ap (λ (s : OpenModel). record s { running = n }) kept ∙ ap (λ (m : ℕ). record old { hosted = told.self.hosted; running = m }) counted;
     })

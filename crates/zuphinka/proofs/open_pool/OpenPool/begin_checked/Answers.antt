@@ -1,5 +1,5 @@
 use Rattle.std.proofs.Common.{◌∙◌, Option, IsSomeAnd, ap, refl, sym, subst}
-use Rattle.pool_driver.specs.Driving.{DrivenModel}
+use Rattle.pool_host.specs.Hosting.{HostedModel}
 use Rattle.zuphinka.specs.Calling.{Began, BeginsTo}
 use Rattle.zuphinka.specs.Opening.{OpenModel}
 use Rattle.zuphinka.specs.declared.starting.Kind.{Kind}
@@ -9,7 +9,7 @@ use Rattle.zuphinka.proofs.open_pool.OpenPool.begin_checked.Goals as goal
 pub returns-in-Some : goal.returns-in-Some
 returns-in-Some c =
     let inside = c.self.inside in
-    let old : OpenModel = record { driven = inside.driven; running = inside.running; number = inside.number; hooks = inside.hooks } in
+    let old : OpenModel = record { hosted = inside.hosted; running = inside.running; number = inside.number; hooks = inside.hooks } in
     let last = c.begun.new in
     let begun = c.begun.ensures c.args.start.now old c.call-call.result kinds.Return c.call-call.ensures.begins c.call-call.ensures.is c.in-Some.ensures.went refl in
     let P : Option Kind → Type 0 = λ k. IsSomeAnd k (Began c.args.start.now c.args.self.now last.self last.host c.begun.result) in
@@ -19,7 +19,7 @@ returns-in-Some c =
 pub returns-in-None : goal.returns-in-None
 returns-in-None c =
     let old = c.self.inside in
-    let same : DrivenModel → OpenModel = λ d. record { driven = d; running = old.running; number = old.number; hooks = old.hooks } in
+    let same : HostedModel → OpenModel = λ d. record { hosted = d; running = old.running; number = old.number; hooks = old.hooks } in
     let last = c.begin_as.new in
     let P : OpenModel → Type 0 = λ p. BeginsTo c.args.start.now p last.self c.args.host.now last.host c.args.effects.now last.effects c.begin_as.result in
     subst P (ap same c.in-None.ensures.unchanged.0 ∙ c.self.view_is) c.begin_as.ensures

@@ -1,6 +1,6 @@
 use Rattle.std.proofs.Common.{◌∙◌, ℕ, Bool, not, ap, sym, subst}
 use Rattle.pool_calls.specs.Operations.{is_over}
-use Rattle.pool_driver.specs.declared.report.Report.TheVariants as reports
+use Rattle.pool_host.specs.declared.report.Report.TheVariants as reports
 use Rattle.zuphinka.specs.Calling.{Began, running_with}
 use Rattle.zuphinka.specs.HostCalls.{Keeps}
 use Rattle.zuphinka.specs.Opening.{OpenModel}
@@ -12,7 +12,7 @@ returns c start old first kind begins is went same =
     let did = c.told-is_running.ensures in
     let over = is_over c.args.call.now.operation in
     let n : ℕ = c.running_with-self-inside.result in
-    let kept = did.rest ∙ ap (λ (s : OpenModel). record s { driven = told.self.driven }) same in
+    let kept = did.rest ∙ ap (λ (s : OpenModel). record s { hosted = told.self.hosted }) same in
     let counted = c.running_with-self-inside.ensures ∙ ap (λ (is : Bool). running_with is c.self.inside.running) did.running ∙ ap (λ (s : OpenModel). running_with (not over) s.running) (c.self.view_is ∙ kept) in
     let N : ℕ → Type 0 = λ m. Keeps over m told.host c.args.call.now in
     let P : OpenModel → Type 0 = λ s. Began start old (record s { running = n }) told.host c.told-is_running.result.0 kind in
@@ -21,7 +21,7 @@ returns c start old first kind begins is went same =
       begins = begins;
       is = is;
       call = c.args.call.now;
-      goes = did.goes reports.GoOn start.caller start.at old.driven first went;
+      goes = did.goes reports.GoOn start.caller start.at old.hosted first went;
       keeps = subst N (ap (λ (s : OpenModel). s.number) same) did.keeps;
-      rest = ap (λ (s : OpenModel). record s { running = n }) kept ∙ ap (λ (m : ℕ). record old { driven = told.self.driven; running = m }) counted;
+      rest = ap (λ (s : OpenModel). record s { running = n }) kept ∙ ap (λ (m : ℕ). record old { hosted = told.self.hosted; running = m }) counted;
     })

@@ -1,5 +1,0 @@
-use Rattle.pool_driver.proofs.pool.DrivenPool.room_made.Goals as goal
-
-pub returns-clause-told : goal.returns-clause-told
-returns-clause-told c is =
-    (c.tell.new.self, c.tell.ensures.proceeds c.if-not-tell.false, c.look_again.ensures.told)

@@ -1,5 +1,0 @@
-use Rattle.std.proofs.Common.{rules}
-use Rattle.pool_driver.proofs.pool.DrivenPool.wake_up.Goals as goal
-
-pub returns-in-Asks-clause-told : goal.returns-in-Asks-clause-told
-returns-in-Asks-clause-told c = search rules
