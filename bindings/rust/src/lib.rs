@@ -72,6 +72,7 @@ compile_error!("zuphinka needs Linux on x86-64: its core is a static library for
 
 mod appended;
 mod async_manager;
+mod borrow_return;
 mod builder;
 mod call;
 mod caller_names;
@@ -90,12 +91,11 @@ mod getters;
 mod handle;
 mod in_progress;
 mod journal;
-mod keeping;
 mod leaks;
-mod lending;
 mod locked;
 mod locked_pool;
 mod maintenance;
+mod maintenance_calls;
 mod manager;
 mod metrics;
 mod outlet;
@@ -126,6 +126,7 @@ mod work;
 mod writing;
 
 pub use async_manager::{Async, AsyncManager};
+pub use borrow_return::{Returned, Touched};
 pub use builder::Builder;
 pub use caller_names::CallerName;
 pub use callers::caller_number;
@@ -134,9 +135,8 @@ pub use error::{Contradiction, Error, OpenError, ReconfigureError, SettingsError
 pub use failure::Failure;
 pub use get::Get;
 pub use journal::Journal;
-pub use keeping::{Addition, Eviction, Maintenance};
 pub use leaks::{Leak, LeakDetection};
-pub use lending::{Returned, Touched};
+pub use maintenance_calls::{Addition, Eviction, Maintenance};
 pub use manager::Manager;
 pub use metrics::Metrics;
 pub use pool::{Pool, WeakPool};

@@ -5,7 +5,7 @@ use crate::counts::Counts;
 use crate::error::{Error, OpenError, ReconfigureError};
 use crate::get::Get;
 use crate::handle::{Handle, WeakHandle};
-use crate::keeping::{Addition, Eviction, Maintenance};
+use crate::maintenance_calls::{Addition, Eviction, Maintenance};
 use crate::manager::Manager;
 use crate::metrics::Metrics;
 use crate::pooled::Pooled;

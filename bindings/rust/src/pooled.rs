@@ -1,8 +1,8 @@
 //! The guard of a lent object, which returns it when it is dropped.
 
+use crate::borrow_return::{Returned, Touched};
 use crate::error::Error;
 use crate::handle::Handle;
-use crate::lending::{Returned, Touched};
 use crate::manager::Manager;
 use crate::panics::unless_it_panics;
 use crate::shared::Item;
