@@ -154,7 +154,7 @@ impl HostedPool {
     // Has a returned object checked, if that is the expected answer. Returns whether it did; otherwise nothing
     // changes.
     #[inline]
-    fn check(&mut self, caller: u32, at: u64, id: u64) -> bool
+    fn begin_return(&mut self, caller: u32, at: u64, id: u64) -> bool
         ensures answered { result ≡ true → Answered caller at (inputs.GiveBack id) None
             self.old.core self.new.core answers.Check None }
         ensures rest { self.new ≡ record self.old { core = self.new.core } }
@@ -232,7 +232,7 @@ impl HostedPool {
     {
         if !IS_END {
             return match (input, answer) {
-                (Input::GiveBack { id }, Answer::Check) => self.check(caller, at, id),
+                (Input::GiveBack { id }, Answer::Check) => self.begin_return(caller, at, id),
                 _ => false,
             };
         }

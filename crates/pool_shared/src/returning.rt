@@ -75,8 +75,8 @@ impl<T: Drop, E: Drop, F: Factory<T, E> + Drop, C: Clock + Drop, B: PoolBrand> S
         }
     }
 
-    // Checks a returned object.
-    fn check<R: Wait>(&self, rt: &R, me: &mut Caller<B>, id: u64, value: T) -> Returned
+    // Tests a returned object, passivates it, and has it parked.
+    fn test_and_park<R: Wait>(&self, rt: &R, me: &mut Caller<B>, id: u64, value: T) -> Returned
         requires owns { (new : _) × OwnsObject me.old id phases.Returning new }
         ensures advances { Advances B.settings me.old me.new }
         ensures trace { Trace B.settings (kinds.Return id) (works id false 0) me.old me.new
@@ -120,7 +120,7 @@ impl<T: Drop, E: Drop, F: Factory<T, E> + Drop, C: Clock + Drop, B: PoolBrand> S
         match self.run_section(rt, me, Input::GiveBack { id: lent.id }, None) {
             Ok((Answer::Check, _)) => {
                 let Lent { pool: _, id, value } = lent;
-                Ok(self.check(rt, me, id, value))
+                Ok(self.test_and_park(rt, me, id, value))
             }
             Ok((Answer::Gone, _)) => {
                 let Lent {
