@@ -6,3 +6,4 @@ pub mod Ending
 pub mod Nearing
 pub mod Orders
 pub mod Reading
+pub mod Times

@@ -1,10 +1,10 @@
 -- The pairs of both queues, in one order, and the waiters that they are seen as.
-use Rattle.std.proofs.Common.{◌≡◌, ◌≢◌, ℕ, suc, ◌+◌, ◌-◌, ◌<◌, ◌≤◌, eqb, Bool, true, false, not, ◌&&◌, ◌||◌, cond, List, [], ◌∷◌, ◌++◌, length, take, Some, None, Result, Ok, Err, OnOk, refl, sym, ap, ◌∙◌, subst, arith, append_assoc, append-nil, length-append}
-use Rattle.std.specs.Prelude.{map, min, filter, find, slice_get, unwrap_or, nat_le, nat_lt}
+use Rattle.std.proofs.Common.{◌≡◌, ℕ, ◌+◌, ◌-◌, ◌<◌, ◌≤◌, eqb, Bool, true, false, not, ◌&&◌, ◌||◌, cond, List, [], ◌∷◌, ◌++◌, length, take, Some, None, Result, Ok, Err, OnOk, refl, sym, ap, ◌∙◌, subst, arith, append_assoc, append-nil, length-append}
+use Rattle.std.specs.Prelude.{map, min, filter, slice_get, unwrap_or, nat_lt}
 use Rattle.std.specs.List.{AllByRecursion}
 use Rattle.std.specs.Option.{option_map}
 use Rattle.std.proofs.Math.Seq.{take-append_seam, get_or-append_seam}
-use Rattle.std.proofs.lemmas.Bool.{both_ways, eq-eqb, ne_eqb}
+use Rattle.std.proofs.lemmas.Bool.{ne_eqb}
 use Rattle.std.proofs.lemmas.Bool.Decides.{nat_tests}
 use Rattle.std.proofs.lemmas.List.{map-append, length-map}
 use Rattle.std.proofs.lemmas.List.Elements.{filter-append}
@@ -14,9 +14,10 @@ use Rattle.std.proofs.lemmas.Option.{slice_get_read, slice_get_past}
 use Rattle.sorted_index.specs.declared.pair.Pair.{Pair}
 use Rattle.sorted_index.specs.Pairs.{Row, first_of, has_id, IdsAbove, IdsBelow, IsAscending, without as without_id}
 use Rattle.pool_calls.specs.Order.{waiter_of, since_of, AreFair, AreTimed, IsQueue}
-use Rattle.pool_calls.specs.Waiting.{Waiter, Queue, is_in, without, newest, most_overtaken, overtaken_once, is_due, counts_overtake, can_pass, may_lend, CountsOnceDue, IsByArrival}
-use Rattle.sorted_index.proofs.Keys.{all_filter, ascending_filter, key_push_other, key_pushed, key_without_other}
+use Rattle.pool_calls.specs.Waiting.{Waiter, Queue, is_in, without, newest, most_overtaken, overtaken_once, counts_overtake, can_pass, may_lend}
+use Rattle.sorted_index.proofs.Keys.{all_filter, ascending_filter, key_pushed}
 use Rattle.sorted_index.proofs.Pushed.{all_push, ascending_push}
+use Rattle.pool_calls.proofs.Times.{waiters_left, waiters_push, timed_below, timed_filter, timed_push}
 
 -- ---- parts of a list
 pub all_back : (P : Pair → Type 0) (ps qs : List Pair) → AllByRecursion P (ps ++ qs) → AllByRecursion P qs
@@ -104,59 +105,6 @@ limited o m n ts (p ∷ ps) within fair =
     (fair.0, first, fair.2, rebound o m n p.key ps first fair.2 fair.3)
 
 -- ---- waiters
-arrival_above : (o t : ℕ) (ts ps : List Pair) → IdsAbove t ps → AllByRecursion (λ w. t < w.ticket) (map (waiter_of o ts) ps)
-arrival_above o t ts [] all = tt
-arrival_above o t ts (p ∷ ps) all = (all.0, arrival_above o t ts ps all.1)
-
--- the time of an earlier ticket says nothing of the later ones
-since_later : (t : Pair) (ts : List Pair) (i : ℕ) → t.id < i → since_of (t ∷ ts) i ≡ since_of ts i
-since_later t ts i above =
-    let other : eqb i t.id ≡ false = ne_eqb i t.id (λ same. grind (arith, above, same)) in
-    ap (λ b. unwrap_or (option_map (λ p. p.key) (cond b (Some t) (find (λ p. eqb i p.id) ts))) 0) other
-
-waiters_later : (o : ℕ) (t : Pair) (ts ps : List Pair) → IdsAbove t.id ps → map (waiter_of o (t ∷ ts)) ps ≡ map (waiter_of o ts) ps
-waiters_later o t ts [] above = refl
-waiters_later o t ts (p ∷ ps) above =
-    let W : ℕ → Waiter = λ n. record { ticket = p.id; overtaken = o - p.key; since = n } in
-    ap (λ n. W n ∷ map (waiter_of o (t ∷ ts)) ps) (since_later t ts p.id above.0) ∙ ap (λ ws. waiter_of o ts p ∷ ws) (waiters_later o t ts ps above.1)
-
--- the time of the first ticket
-since_first : (t : Pair) (ts : List Pair) (i : ℕ) → t.id ≡ i → since_of (t ∷ ts) i ≡ t.key
-since_first t ts i same = ap (λ b. unwrap_or (option_map (λ p. p.key) (cond b (Some t) (find (λ p. eqb i p.id) ts))) 0) (eq-eqb i t.id (sym same))
-
--- all tickets wait from this time on, or later
-since_above : (o l k : ℕ) (ps ts : List Pair) → IsAscending ps → AreTimed l ps ts → AllByRecursion (λ u. k ≤ u.key) ts → AllByRecursion (λ w. k ≤ w.since) (map (waiter_of o ts) ps)
-since_above o l k [] [] up timed all = tt
-since_above o l k [] (t ∷ ts) up timed all = tt
-since_above o l k (p ∷ ps) [] up timed all = absurd timed
-since_above o l k (p ∷ ps) (t ∷ ts) up timed all =
-    let above : IdsAbove t.id ps = subst (λ (n : ℕ). IdsAbove n ps) (sym timed.0) up.0 in
-    let rest = subst (AllByRecursion (λ w. k ≤ w.since)) (sym (waiters_later o t ts ps above)) (since_above o l k ps ts up.1 timed.3 all.1) in
-    (subst (λ (n : ℕ). k ≤ n) (sym (since_first t ts p.id timed.0)) all.0, rest)
-
-pub by_arrival : (o l : ℕ) (ps ts : List Pair) → IsAscending ps → AreTimed l ps ts → IsByArrival (map (waiter_of o ts) ps)
-by_arrival o l [] ts up timed = tt
-by_arrival o l (p ∷ ps) [] up timed = absurd timed
-by_arrival o l (p ∷ ps) (t ∷ ts) up timed =
-    let above : IdsAbove t.id ps = subst (λ (n : ℕ). IdsAbove n ps) (sym timed.0) up.0 in
-    let same = sym (waiters_later o t ts ps above) in
-    let first = sym (since_first t ts p.id timed.0) in
-    let later = subst (AllByRecursion (λ w. t.key ≤ w.since)) same (since_above o l t.key ps ts up.1 timed.3 timed.2) in
-    (arrival_above o p.id (t ∷ ts) ps up.0, subst (λ (n : ℕ). AllByRecursion (λ w. n ≤ w.since) (map (waiter_of o (t ∷ ts)) ps)) first later, subst IsByArrival same (by_arrival o l ps ts up.1 timed.3))
-
--- the first ticket has waited for so long
-pub due_of_none : (o l m at : ℕ) (ps ts : List Pair) → AreTimed l ps ts → first_of ts ≡ None → is_due m at (map (waiter_of o ts) ps) ≡ false
-due_of_none o l m at [] ts timed none = refl
-due_of_none o l m at (p ∷ ps) [] timed none = absurd timed
-due_of_none o l m at (p ∷ ps) (t ∷ ts) timed none = absurd (cc)
-
-pub due_of_first : (o l m at : ℕ) (ps ts : List Pair) (first : Pair) → AreTimed l ps ts → first_of ts ≡ Some first → is_due m at (map (waiter_of o ts) ps) ≡ nat_le m (at - first.key)
-due_of_first o l m at ps [] first timed is = absurd (cc)
-due_of_first o l m at [] (t ∷ ts) first timed is = absurd timed
-due_of_first o l m at (p ∷ ps) (t ∷ ts) first timed is =
-    let same : t ≡ first = cc in
-    ap (λ n. nat_le m (at - n)) (since_first t ts p.id timed.0) ∙ ap (λ (q : Pair). nat_le m (at - q.key)) same
-
 is_in-waiters : (t o : ℕ) (ts ps : List Pair) → is_in t (map (waiter_of o ts) ps) ≡ has_id t ps
 is_in-waiters t o ts [] = refl
 is_in-waiters t o ts (p ∷ ps) = ap (λ b. eqb t p.id || b) (is_in-waiters t o ts ps)
@@ -184,19 +132,6 @@ waited t o ts ps qs = is_in-waiters t o ts (ps ++ qs) ∙ list_any-append (λ p.
 left_all : (t : ℕ) (ps qs : List Pair) → without_id t (ps ++ qs) ≡ without_id t ps ++ without_id t qs
 left_all t ps qs = filter-append (λ p. not (eqb t p.id)) ps qs
 
--- the time of a ticket that left says nothing of the others
-waiters_left : (t o : ℕ) (ts ps : List Pair) → map (waiter_of o (without_id t ts)) (without_id t ps) ≡ map (waiter_of o ts) (without_id t ps)
-waiters_left t o ts [] = refl
-waiters_left t o ts (p ∷ ps) = by_test (eqb t p.id) refl (waiters_left t o ts ps)
-  where
-    by_test : (b : Bool) → eqb t p.id ≡ b → map (waiter_of o (without_id t ts)) (without_id t ps) ≡ map (waiter_of o ts) (without_id t ps)
-        → map (waiter_of o (without_id t ts)) (cond (not b) (p ∷ without_id t ps) (without_id t ps)) ≡ map (waiter_of o ts) (cond (not b) (p ∷ without_id t ps) (without_id t ps))
-    by_test true is rest = rest
-    by_test false is rest =
-        let W : ℕ → Waiter = λ n. record { ticket = p.id; overtaken = o - p.key; since = n } in
-        let other : p.id ≢ t = λ same. absurd (both_ways (eqb t p.id) is (eq-eqb t p.id (sym same))) in
-        ap (λ n. W n ∷ map (waiter_of o (without_id t ts)) (without_id t ps)) (ap (λ k. unwrap_or k 0) (key_without_other t p.id ts other)) ∙ ap (λ ws. waiter_of o ts p ∷ ws) rest
-
 pub left : (t o : ℕ) (ts ps qs us rs ss : List Pair) → us ≡ without_id t ts → rs ≡ without_id t ps → ss ≡ without_id t qs → map (waiter_of o us) (rs ++ ss) ≡ without t (map (waiter_of o ts) (ps ++ qs))
 left t o ts ps qs us rs ss u r s =
     ap (λ xs. map (waiter_of o xs) (rs ++ ss)) u ∙ ap (λ xs. map (waiter_of o (without_id t ts)) (xs ++ ss)) r ∙ ap (λ xs. map (waiter_of o (without_id t ts)) (without_id t ps ++ xs)) s
@@ -205,27 +140,6 @@ left t o ts ps qs us rs ss u r s =
 pub left_signalled : (t o : ℕ) (ts ps qs rs : List Pair) → rs ≡ without_id t ps → length rs ≡ length (without t (take (length ps) (map (waiter_of o ts) (ps ++ qs))))
 left_signalled t o ts ps qs rs r =
     ap (length {A = Pair}) r ∙ sym (length-map (without_id t ps) (waiter_of o ts)) ∙ ap (length {A = Waiter}) (sym (without-waiters t o ts ps) ∙ ap (without t) (sym (signalled_waiters o ts ps qs)))
-
--- a ticket that comes has a time of its own
-waiters_push : (o : ℕ) (t : Pair) (ts ps : List Pair) → IdsBelow t.id ps → map (waiter_of o (ts ++ t ∷ [])) ps ≡ map (waiter_of o ts) ps
-waiters_push o t ts [] below = refl
-waiters_push o t ts (p ∷ ps) below =
-    let W : ℕ → Waiter = λ n. record { ticket = p.id; overtaken = o - p.key; since = n } in
-    let other : p.id ≢ t.id = λ same. omega (arith, below.0, same) in
-    ap (λ n. W n ∷ map (waiter_of o (ts ++ t ∷ [])) ps) (ap (λ k. unwrap_or k 0) (key_push_other p.id ts t other)) ∙ ap (λ ws. waiter_of o ts p ∷ ws) (waiters_push o t ts ps below.1)
-
--- the ids of the times are those of the tickets
-pub timed_below : (l n : ℕ) (ps ts : List Pair) → AreTimed l ps ts → IdsBelow n ps → IdsBelow n ts
-timed_below l n [] [] timed below = tt
-timed_below l n [] (t ∷ ts) timed below = absurd timed
-timed_below l n (p ∷ ps) [] timed below = absurd timed
-timed_below l n (p ∷ ps) (t ∷ ts) timed below = (omega (arith, timed.0, below.0), timed_below l n ps ts timed.3 below.1)
-
-pub timed_few : (l : ℕ) (ps ts : List Pair) → AreTimed l ps ts → length ts ≡ length ps
-timed_few l [] [] timed = refl
-timed_few l [] (t ∷ ts) timed = absurd timed
-timed_few l (p ∷ ps) [] timed = absurd timed
-timed_few l (p ∷ ps) (t ∷ ts) timed = ap suc (timed_few l ps ts timed.3)
 
 pub pushed : (o l : ℕ) (ts us ps qs rs : List Pair) (p t : Pair) → AreTimed l (ps ++ qs) ts → IdsBelow p.id (ps ++ qs) → p.key ≡ o → t.id ≡ p.id → us ≡ ts ++ t ∷ [] → rs ≡ qs ++ p ∷ [] → map (waiter_of o us) (ps ++ rs) ≡ map (waiter_of o ts) (ps ++ qs) ++ newest p.id t.key ∷ []
 pushed o l ts us ps qs rs p t timed below now same grown is =
@@ -266,33 +180,6 @@ fair_filter o m test (p ∷ ps) fair = by_test (test p) (all_filter (λ q. p.key
 
 fewer : (test : Pair → Bool) (ps : List Pair) → length (filter test ps) ≤ length ps
 fewer test ps = omega (arith, length-filter_both test (λ p. not (test p)) (λ p. refl) ps)
-
-timed_filter : (l : ℕ) (t : ℕ) (ps ts : List Pair) → AreTimed l ps ts → AreTimed l (without_id t ps) (without_id t ts)
-timed_filter l t [] [] timed = tt
-timed_filter l t [] (u ∷ ts) timed = absurd timed
-timed_filter l t (p ∷ ps) [] timed = absurd timed
-timed_filter l t (p ∷ ps) (u ∷ ts) timed =
-    by_tests (eqb t p.id) (eqb t u.id) (ap (eqb t) timed.0) (all_filter (λ q. u.key ≤ q.key) (λ q. not (eqb t q.id)) ts timed.2) (timed_filter l t ps ts timed.3)
-  where
-    by_tests : (a b : Bool) → b ≡ a → AllByRecursion (λ q. u.key ≤ q.key) (without_id t ts) → AreTimed l (without_id t ps) (without_id t ts)
-        → AreTimed l (cond (not a) (p ∷ without_id t ps) (without_id t ps)) (cond (not b) (u ∷ without_id t ts) (without_id t ts))
-    by_tests true true same later rest = rest
-    by_tests false false same later rest = (timed.0, timed.1, later, rest)
-    by_tests true false same later rest = absurd (cc same)
-    by_tests false true same later rest = absurd (cc same)
-
-raise_latest : (l n : ℕ) (ps ts : List Pair) → l ≤ n → AreTimed l ps ts → AreTimed n ps ts
-raise_latest l n [] [] more timed = tt
-raise_latest l n [] (t ∷ ts) more timed = absurd timed
-raise_latest l n (p ∷ ps) [] more timed = absurd timed
-raise_latest l n (p ∷ ps) (t ∷ ts) more timed = (timed.0, omega (arith, more, timed.1), timed.2, raise_latest l n ps ts more timed.3)
-
-timed_push : (l : ℕ) (ps ts : List Pair) (p t : Pair) → t.id ≡ p.id → l ≤ t.key → AreTimed l ps ts → AreTimed t.key (ps ++ p ∷ []) (ts ++ t ∷ [])
-timed_push l [] [] p t same later timed = (same, omega arith, tt, tt)
-timed_push l [] (u ∷ ts) p t same later timed = absurd timed
-timed_push l (q ∷ ps) [] p t same later timed = absurd timed
-timed_push l (q ∷ ps) (u ∷ ts) p t same later timed =
-    (timed.0, omega (arith, timed.1, later), all_push (λ x. u.key ≤ x.key) ts t timed.2 (omega (arith, timed.1, later)), timed_push l ps ts p t same later timed.3)
 
 pub left_queue : (t l d o m : ℕ) (s a ts s2 a2 ts2 : Row) → IsQueue s a ts l d o m → s2.pairs ≡ without_id t s.pairs → a2.pairs ≡ without_id t a.pairs → ts2.pairs ≡ without_id t ts.pairs → s2.capacity ≡ s.capacity → a2.capacity ≡ a.capacity → ts2.capacity ≡ ts.capacity → IsQueue s2 a2 ts2 l d o m
 left_queue t l d o m s a ts s2 a2 ts2 old r q u room room2 room3 =
@@ -369,15 +256,3 @@ reserved (Ok x) count all o s a ts s2 a2 ts2 is s_same a_same s_room a_room t_ro
     in
     omega (arith, is, long, length-map (s.pairs ++ a.pairs) (waiter_of o ts.pairs), s_room, a_room, t_room)
 reserved (Err e) count all o s a ts s2 a2 ts2 is s_same a_same s_room a_room t_room = tt
-
--- ---- the law of the time
-is_long : (m n : ℕ) → m ≤ n → nat_le m n ≡ true
-is_long m n within = grind (arith, nat_tests)
-
-older_due : (m at s : ℕ) (ws : List Waiter) → AllByRecursion (λ w. s ≤ w.since) ws → AllByRecursion (λ w. m ≤ at - w.since → nat_le m (at - s) ≡ true) ws
-older_due m at s [] later = tt
-older_due m at s (w ∷ ws) later = ((λ waited. is_long m (at - s) (omega (arith, waited, later.0))), older_due m at s ws later.1)
-
-pub counts_once_due : CountsOnceDue
-counts_once_due m at [] up = tt
-counts_once_due m at (w ∷ ws) up = ((λ waited. is_long m (at - w.since) waited), older_due m at w.since ws up.1)

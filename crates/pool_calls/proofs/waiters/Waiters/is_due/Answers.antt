@@ -1,6 +1,6 @@
 use Rattle.std.proofs.Common.{sym, ap, ◌∙◌}
 use Rattle.std.specs.Prelude.{nat_le}
-use Rattle.pool_calls.proofs.Orders.{due_of_first, due_of_none}
+use Rattle.pool_calls.proofs.Times.{due_of_first, due_of_none}
 use Rattle.pool_calls.proofs.waiters.Waiters.is_due.Goals as goal
 
 pub returns-in-None : goal.returns-in-None

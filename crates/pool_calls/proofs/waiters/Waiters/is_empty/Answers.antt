@@ -3,7 +3,7 @@ use Rattle.std.proofs.lemmas.Bool.Decides.{nat_tests}
 use Rattle.std.proofs.lemmas.List.{length-map}
 use Rattle.sorted_index.specs.declared.pair.Pair.{Pair}
 use Rattle.pool_calls.specs.Order.{waiter_of}
-use Rattle.pool_calls.proofs.Orders.{timed_few}
+use Rattle.pool_calls.proofs.Times.{timed_few}
 use Rattle.pool_calls.proofs.waiters.Waiters.is_empty.Goals as goal
 
 pub returns-clause-value : goal.returns-clause-value

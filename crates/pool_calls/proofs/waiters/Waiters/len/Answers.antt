@@ -1,7 +1,8 @@
 use Rattle.std.proofs.Common.{sym, ◌∙◌}
 use Rattle.std.proofs.lemmas.List.{length-map}
 use Rattle.pool_calls.specs.Order.{waiter_of}
-use Rattle.pool_calls.proofs.Orders.{by_arrival, fair_waiters, timed_few}
+use Rattle.pool_calls.proofs.Orders.{fair_waiters}
+use Rattle.pool_calls.proofs.Times.{by_arrival, timed_few}
 use Rattle.pool_calls.proofs.waiters.Waiters.len.Goals as goal
 
 pub returns-clause-value : goal.returns-clause-value

@@ -1,7 +1,8 @@
 use Rattle.std.proofs.Common.{◌≡◌, ◌+◌, ◌≤◌, ◌++◌, ◌∷◌, [], ℕ, max, refl, sym, ap, ◌∙◌, subst, arith, rules}
 use Rattle.pool_calls.specs.Order.{IsQueue}
 use Rattle.pool_calls.specs.Waiting.{is_in, newest}
-use Rattle.pool_calls.proofs.Orders.{all_back, below_out, pushed, pushed_queue, timed_below, timed_few}
+use Rattle.pool_calls.proofs.Orders.{all_back, below_out, pushed, pushed_queue}
+use Rattle.pool_calls.proofs.Times.{timed_below, timed_few}
 use Rattle.pool_calls.proofs.waiters.Waiters.wait.Goals as goal
 
 pub push_back-requires-clause-above : goal.push_back-requires-clause-above
