@@ -105,7 +105,8 @@ struct maker {
   bool has_chance, is_plain, has_no_clock; /* calls fail at random; some callbacks are null; the clock is null */
   bool is_fair;                            /* as in the host */
   uint32_t max_overtakes;                  /* the same */
-  uint64_t overtake_ms, max_lifetime_ms, leak_after_ms; /* the same */
+  uint64_t overtake_ms;                    /* the same */
+  uint64_t max_lifetime_ms, leak_after_ms; /* the same */
   atomic_uint_fast64_t leaks;              /* loans that were reported */
   struct { uint64_t id, since; uint32_t borrower; } leak; /* the last one, in a test of one thread */
   uint64_t seed;

@@ -101,11 +101,11 @@ public final class Queueing {
 
     /** Takes the lock of a pool, and returns what frees it. */
     public static Runnable lock(ZuphinkaPool<?> pool) throws ReflectiveOperationException {
-        Field sections = ZuphinkaPool.class.getDeclaredField("sections");
-        sections.setAccessible(true);
-        Field lock = Sections.class.getDeclaredField("lock");
+        Field lockedPool = ZuphinkaPool.class.getDeclaredField("lockedPool");
+        lockedPool.setAccessible(true);
+        Field lock = LockedPool.class.getDeclaredField("lock");
         lock.setAccessible(true);
-        PoolLock taken = (PoolLock) lock.get(sections.get(pool));
+        PoolLock taken = (PoolLock) lock.get(lockedPool.get(pool));
         taken.take();
         return taken::free;
     }

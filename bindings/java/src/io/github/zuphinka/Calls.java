@@ -6,19 +6,19 @@ import org.apache.commons.pool2.DestroyMode;
 /** The calls of a pool, each from its beginning to its end: borrows, returns, and others. */
 final class Calls<T> {
     final TrackedUses<T> uses;
-    private final Sections<T> sections;
+    private final LockedPool<T> lockedPool;
     private final Settling<T> settling;
     private final Storing<T> storing;
     private final Room<T> room;
     private final Work<T> work;
 
-    Calls(Sections<T> sections, Storing<T> storing) {
-        this.sections = sections;
+    Calls(LockedPool<T> lockedPool, Storing<T> storing) {
+        this.lockedPool = lockedPool;
         this.storing = storing;
-        settling = new Settling<>(sections);
-        room = new Room<>(sections);
-        work = sections.work;
-        uses = new TrackedUses<>(sections, room);
+        settling = new Settling<>(lockedPool);
+        room = new Room<>(lockedPool);
+        work = lockedPool.work;
+        uses = new TrackedUses<>(lockedPool, room);
     }
 
     /**
@@ -32,7 +32,7 @@ final class Calls<T> {
             Call<T> call;
             long reply = begin(caller, first, moreMillis, longestNanos);
             try {
-                sections.see(caller);
+                lockedPool.see(caller);
                 if (Core.isPlainEnd(reply)) {
                     return settling.lendAtOnce(reply, first);
                 }
@@ -43,39 +43,39 @@ final class Calls<T> {
                     return lent;
                 }
             } finally {
-                sections.release(reply);
+                lockedPool.release(reply);
             }
             Member<T> lent = lentBy(call);
             if (lent != null) {
                 return lent;
             }
-            limitNanos = longestNanos < 0 ? sections.settings().maxWaitNanos : longestNanos; // the core counts from now on
+            limitNanos = longestNanos < 0 ? lockedPool.settings().maxWaitNanos : longestNanos; // the core counts from now on
         }
     }
 
-    /** Begins a borrow as {@link Sections#begin} does, once lent objects were asked when they were last used if it may reclaim them. */
+    /** Begins a borrow as {@link LockedPool#begin} does, once lent objects were asked when they were last used if it may reclaim them. */
     private long begin(int caller, long first, long moreMillis, long longestNanos) throws Exception {
         for (;;) {
-            CoreSettings<T> of = sections.settings();
+            CoreSettings<T> of = lockedPool.settings();
             boolean isHeld = uses.mayReclaim(of);
             if (isHeld) {
                 takeAsked(first, longestNanos);
             }
-            long reply = sections.begin(Core.KIND_BORROW, caller, first, moreMillis, 0, isHeld ? 0 : of.number, isHeld);
+            long reply = lockedPool.begin(Core.KIND_BORROW, caller, first, moreMillis, 0, isHeld ? 0 : of.number, isHeld);
             if (reply != Core.OTHER_SETTINGS) {
                 return reply;
             }
-            sections.release();
+            lockedPool.release();
         }
     }
 
     /** Takes the lock, once lent objects were asked if a borrow that begins then is to ask them. */
     private void takeAsked(long first, long longestNanos) throws Exception {
-        sections.take();
+        lockedPool.take();
         if (uses.isToAsk()) {
-            sections.release();
+            lockedPool.release();
             uses.note(Core.KIND_BORROW, first, longestNanos);
-            sections.take();
+            lockedPool.take();
         }
     }
 
@@ -101,7 +101,7 @@ final class Calls<T> {
 
     /** Returns an object by the settings of the moment, at this time of {@link System#nanoTime}. */
     void giveBack(Member<T> member, long now) {
-        while (!isGivenBack(member, sections.settings(), now)) {
+        while (!isGivenBack(member, lockedPool.settings(), now)) {
             // Other settings came between.
         }
     }
@@ -109,9 +109,9 @@ final class Calls<T> {
     /** Returns whether an object is still lent, and then notes a use, if the journal has room for that: its holder only gets it now. */
     private boolean isStillLent(Member<T> member) {
         long now = System.nanoTime();
-        return sections.completing(() -> {
+        return lockedPool.completing(() -> {
             boolean isLent = member.isLent();
-            if (isLent && Core.use(sections.core, sections.timeOf(now), member.id, Callers.number()) == 0) {
+            if (isLent && Core.use(lockedPool.core, lockedPool.timeOf(now), member.id, Callers.number()) == 0) {
                 member.use(now);
             }
             return isLent;
@@ -126,14 +126,14 @@ final class Calls<T> {
         int caller = Callers.number();
         int kind = of.isTooOld(member, now) ? Core.KIND_INVALIDATE : Core.KIND_RETURN;
         Call<T> call;
-        long reply = sections.begin(kind, caller, now, member.id, member.slot, of.number, false);
+        long reply = lockedPool.begin(kind, caller, now, member.id, member.slot, of.number, false);
         try {
             if (reply == Core.OTHER_SETTINGS) {
                 return false;
             }
-            sections.see(caller);
+            lockedPool.see(caller);
             if (Core.isPlainEnd(reply)) {
-                sections.measures.giveBack(member, now);
+                lockedPool.measures.giveBack(member, now);
                 return true;
             }
             call = settling.callOf(member, reply, caller, now);
@@ -141,7 +141,7 @@ final class Calls<T> {
                 return true;
             }
         } finally {
-            sections.release(reply);
+            lockedPool.release(reply);
         }
         if (follow(call) == null) {
             Ends.checkUnchecked(call);
@@ -162,24 +162,24 @@ final class Calls<T> {
     private Call<T> made(int kind, Member<T> member, DestroyMode mode) {
         Call<T> call = new Call<T>().begin(kind, Callers.number(), System.nanoTime(), member);
         call.mode = mode;
-        sections.take();
+        lockedPool.take();
         try {
-            if (kind == Core.KIND_CLOSE && sections.isClosed()) {
+            if (kind == Core.KIND_CLOSE && lockedPool.isClosed()) {
                 call.action = Core.ACTION_DONE;
                 return call;
             }
             if (kind == Core.KIND_CLOSE) {
-                sections.close();
+                lockedPool.close();
             }
-            CoreSettings<T> of = sections.settings();
+            CoreSettings<T> of = lockedPool.settings();
             call.testsOnCreate = of.config.getTestOnCreate();
-            call.testsLeft = kind == Core.KIND_EVICT && of.hasLifetime() ? of.testsOf(sections.journal.latest().idle()) : Long.MAX_VALUE;
-            sections.see(call.caller);
-            long reply = sections.beginWithin(call);
+            call.testsLeft = kind == Core.KIND_EVICT && of.hasLifetime() ? of.testsOf(lockedPool.journal.latest().idle()) : Long.MAX_VALUE;
+            lockedPool.see(call.caller);
+            long reply = lockedPool.beginWithin(call);
             settling.begin(call, reply);
             settling.takeUp(call, reply);
         } finally {
-            sections.release();
+            lockedPool.release();
         }
         follow(call);
         return call;
@@ -203,7 +203,7 @@ final class Calls<T> {
                 return member;
             }
         }
-        if (call.hasFreed && sections.isEnding()) {
+        if (call.hasFreed && lockedPool.isEnding()) {
             storing.storeLast();
         }
         return null;
@@ -228,25 +228,25 @@ final class Calls<T> {
         boolean isLimited = call.untilMillis < Long.MAX_VALUE;
         int latest = report;
         if (isLimited) {
-            sections.takeAgain();
+            lockedPool.takeAgain();
             while (latest != Core.REPORT_GIVEN_UP && isEarly(call)) {
-                sections.release();
+                lockedPool.release();
                 latest = waited(call, latest);
                 call.now = System.nanoTime();
-                sections.takeAgain();
+                lockedPool.takeAgain();
             }
         }
-        long reply = sections.advance(call, latest, isLimited);
+        long reply = lockedPool.advance(call, latest, isLimited);
         try {
             return settling.advance(call, latest, reply);
         } finally {
-            sections.release(reply);
+            lockedPool.release(reply);
         }
     }
 
     /** Returns whether the wait of a call is over by the milliseconds of the core, and not yet by the clock: for less than a millisecond. */
     private boolean isEarly(Call<T> call) {
-        return sections.timeOf(call.now) >= call.untilMillis && call.left(call.untilNanos) > 0;
+        return lockedPool.timeOf(call.now) >= call.untilMillis && call.left(call.untilNanos) > 0;
     }
 
     /** Waits until the time of an early call is over. Returns its report. */

@@ -11,21 +11,21 @@ import java.util.concurrent.ConcurrentHashMap;
  * library's class loader, and so keep all classes of that, and a pool that one of these has. With that class loader the native library is unloaded, which
  * frees the cores that are left.
  */
-final class Cores extends PhantomReference<Sections<?>> {
-    private static final ReferenceQueue<Sections<?>> UNUSED = new ReferenceQueue<>();
+final class Cores extends PhantomReference<LockedPool<?>> {
+    private static final ReferenceQueue<LockedPool<?>> UNUSED = new ReferenceQueue<>();
     private static final Set<Cores> ALL = ConcurrentHashMap.newKeySet();
 
     private final long core;
 
-    private Cores(Sections<?> sections, long core) {
-        super(sections, UNUSED);
+    private Cores(LockedPool<?> lockedPool, long core) {
+        super(lockedPool, UNUSED);
         this.core = core;
     }
 
     /** Has the core of a pool freed once nobody has the pool, and frees those of others that nobody has. */
-    static void register(Sections<?> sections, long core) {
+    static void register(LockedPool<?> lockedPool, long core) {
         freeUnused();
-        ALL.add(new Cores(sections, core));
+        ALL.add(new Cores(lockedPool, core));
     }
 
     private static void freeUnused() {

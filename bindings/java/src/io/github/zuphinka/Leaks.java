@@ -14,7 +14,7 @@ final class Leaks<T> {
 
     private final ZuphinkaPool<T> pool;
     private final Objects<T> objects;
-    private final Sections<T> sections;
+    private final LockedPool<T> lockedPool;
     private final Numbers numbers;
     private final WeakReference<ClassLoader> context;
     private volatile Duration threshold = Duration.ZERO;
@@ -24,10 +24,10 @@ final class Leaks<T> {
     /** Null: the limit is 0 or negative, or the pool is closed. */
     private Maintenance thread;
 
-    Leaks(ZuphinkaPool<T> pool, Objects<T> objects, Sections<T> sections, Numbers numbers, WeakReference<ClassLoader> context) {
+    Leaks(ZuphinkaPool<T> pool, Objects<T> objects, LockedPool<T> lockedPool, Numbers numbers, WeakReference<ClassLoader> context) {
         this.pool = pool;
         this.objects = objects;
-        this.sections = sections;
+        this.lockedPool = lockedPool;
         this.numbers = numbers;
         this.context = context;
     }
@@ -92,7 +92,7 @@ final class Leaks<T> {
             long nanos = lender == null ? 0 : System.nanoTime() - lender.lentAt;
             if (nanos > limit && !lender.isTold && numbers.isLent(member, lender.loan)) {
                 lender.isTold = true;
-                tell(new Leak(sections.name, member.id, lender, Duration.ofNanos(nanos)));
+                tell(new Leak(lockedPool.name, member.id, lender, Duration.ofNanos(nanos)));
             }
         }
     }

@@ -4,12 +4,12 @@ import java.io.IOException;
 
 /** Makes room in the full journal of a pool for its calls. */
 final class Room<T> {
-    private final Sections<T> sections;
+    private final LockedPool<T> lockedPool;
     private final StoredJournal journal;
 
-    Room(Sections<T> sections) {
-        this.sections = sections;
-        journal = sections.journal;
+    Room(LockedPool<T> lockedPool) {
+        this.lockedPool = lockedPool;
+        journal = lockedPool.journal;
     }
 
     /** Makes room for a call. Returns the report; if there is no room, the call has the exception for that. */
@@ -34,13 +34,13 @@ final class Room<T> {
 
     /** Cuts a full journal, unless it was cut since it had been cut so often. */
     private void cutFull(long cuts) {
-        sections.takeAgain();
+        lockedPool.takeAgain();
         try {
             if (journal.cuts() == cuts) {
                 journal.cutFull();
             }
         } finally {
-            sections.release();
+            lockedPool.release();
         }
     }
 
@@ -50,7 +50,7 @@ final class Room<T> {
      */
     private void storePending(Call<T> call) throws InterruptedException {
         if (call.kind == Core.KIND_BORROW) {
-            storeWithin(call.leftForRoom(sections.settings()), call);
+            storeWithin(call.leftForRoom(lockedPool.settings()), call);
             return;
         }
         boolean isInterrupted = false;
@@ -73,7 +73,7 @@ final class Room<T> {
     private void storeWithin(long nanos, Call<T> call) throws InterruptedException {
         boolean hasStored;
         try {
-            hasStored = journal.storePending(nanos, () -> journal.cuts() != call.cuts || sections.isClosed() && call.needsOpenPool());
+            hasStored = journal.storePending(nanos, () -> journal.cuts() != call.cuts || lockedPool.isClosed() && call.needsOpenPool());
         } catch (IOException | RuntimeException e) {
             throw new IllegalStateException("Journal full", e);
         }

@@ -2,9 +2,9 @@ package io.github.zuphinka;
 
 import java.util.concurrent.TimeUnit;
 
-/** What calls do in their sections, after each reply of the core. The caller holds the lock of the pool. */
+/** What calls do in their lockedPool, after each reply of the core. The caller holds the lock of the pool. */
 final class Settling<T> {
-    private final Sections<T> sections;
+    private final LockedPool<T> lockedPool;
     private final Work<T> work;
     private final Members<T> members;
     private final Wakes wakes;
@@ -12,12 +12,12 @@ final class Settling<T> {
     /** Calls that are over, for the next ones that are for no object. */
     private Call<T> kept;
 
-    Settling(Sections<T> sections) {
-        this.sections = sections;
-        work = sections.work;
-        members = sections.members;
-        wakes = sections.wakes;
-        measures = sections.measures;
+    Settling(LockedPool<T> lockedPool) {
+        this.lockedPool = lockedPool;
+        work = lockedPool.work;
+        members = lockedPool.members;
+        wakes = lockedPool.wakes;
+        measures = lockedPool.measures;
         kept = new Call<>(); // its classes are initialized, as would fail for good on a full stack
     }
 
@@ -51,9 +51,9 @@ final class Settling<T> {
 
     /** Begins a call that has this reply. */
     void begin(Call<T> call, long reply) {
-        call.progress = sections.details.getLong(Core.PROGRESS);
+        call.progress = lockedPool.details.getLong(Core.PROGRESS);
         call.action = Core.action(reply);
-        call.setSettings(sections.settings());
+        call.setSettings(lockedPool.settings());
     }
 
     private static boolean hasCall(Member<?> member) {
@@ -71,10 +71,10 @@ final class Settling<T> {
         try {
             return new Call<>();
         } catch (OutOfMemoryError e) {
-            long progress = sections.details.getLong(Core.PROGRESS);
+            long progress = lockedPool.details.getLong(Core.PROGRESS);
             wakes.wakeBy(reply);
             if (progress != 0) {
-                wakes.wakeBy(Core.advance(sections.core, progress, 0, 0, caller, Core.REPORT_GIVEN_UP, true));
+                wakes.wakeBy(Core.advance(lockedPool.core, progress, 0, 0, caller, Core.REPORT_GIVEN_UP, true));
             }
             throw e;
         }
@@ -154,7 +154,7 @@ final class Settling<T> {
             wakes.leave(call);
             wakes.wakeBy(reply);
             call.keepsError(e);
-            return takeUpOnce(call, sections.advance(call, call.giveUp(), true));
+            return takeUpOnce(call, lockedPool.advance(call, call.giveUp(), true));
         }
     }
 
@@ -187,22 +187,22 @@ final class Settling<T> {
     /** Has what the next action needs. */
     private void prepare(Call<T> call, long reply) {
         if (call.kind != Core.KIND_EVICT || call.action == work.firstOfTest()) {
-            call.setSettings(sections.settings()); // an idle test ends by those by which it began
+            call.setSettings(lockedPool.settings()); // an idle test ends by those by which it began
         }
         switch (call.action) {
             case Core.ACTION_MAKE_ROOM:
-                call.cuts = sections.journal.cuts();
-                call.isRefused = sections.isClosed() && call.needsOpenPool();
+                call.cuts = lockedPool.journal.cuts();
+                call.isRefused = lockedPool.isClosed() && call.needsOpenPool();
                 break;
             case Core.ACTION_MAKE:
                 Call<T> ofReturn = new Call<>();
-                call.member = members.add(sections.details.getLong(Core.OBJECT));
+                call.member = members.add(lockedPool.details.getLong(Core.OBJECT));
                 call.member.call = ofReturn;
                 call.isActivated = !work.activates && !call.testsOnCreate;
                 break;
             case Core.ACTION_SLEEP:
-                call.ticket.number = sections.details.getLong(Core.TICKET);
-                call.mayPause = Core.busy(sections.core) <= Pauses.PROCESSORS;
+                call.ticket.number = lockedPool.details.getLong(Core.TICKET);
+                call.mayPause = Core.busy(lockedPool.core) <= Pauses.PROCESSORS;
                 wakes.waiters.add(call);
                 break;
             case Core.ACTION_ACTIVATE:
@@ -210,7 +210,7 @@ final class Settling<T> {
             case Core.ACTION_PASSIVATE:
             case Core.ACTION_DESTROY:
                 takeObject(call, Core.token(reply));
-                call.idle = call.settings.policy != null && call.kind == Core.KIND_EVICT ? sections.journal.latest().idle() : 0;
+                call.idle = call.settings.policy != null && call.kind == Core.KIND_EVICT ? lockedPool.journal.latest().idle() : 0;
                 break;
             default:
                 if (call.end == Core.END_LENT) {
@@ -222,8 +222,8 @@ final class Settling<T> {
     /** Has the time at which the wait of a call is over by the settings of the moment. */
     private void limitSleep(Call<T> call, long reply) {
         boolean hasUntil = Core.hasUntil(reply);
-        call.untilMillis = hasUntil ? sections.details.getLong(Core.UNTIL) : Long.MAX_VALUE;
-        call.untilNanos = hasUntil ? TimeUnit.MILLISECONDS.toNanos(call.untilMillis - sections.millis(call.first)) : Long.MAX_VALUE;
+        call.untilMillis = hasUntil ? lockedPool.details.getLong(Core.UNTIL) : Long.MAX_VALUE;
+        call.untilNanos = hasUntil ? TimeUnit.MILLISECONDS.toNanos(call.untilMillis - lockedPool.millis(call.first)) : Long.MAX_VALUE;
     }
 
     /** Has the object that the next action is for, or that is lent. The one of a return or an invalidation is given. */
@@ -244,11 +244,11 @@ final class Settling<T> {
             call.hasReclaimed = true;
             members.search();
         }
-        long total = sections.details.getLong(Core.RECLAIMED);
-        long taken = sections.details.getLong(Core.TAKEN);
+        long total = lockedPool.details.getLong(Core.RECLAIMED);
+        long taken = lockedPool.details.getLong(Core.TAKEN);
         for (int left = members.size(); left > 0 && taken < total; left--) {
             Member<T> member = members.nextSought();
-            if (member.isLent() && !Core.isLent(sections.core, member.id)) {
+            if (member.isLent() && !Core.isLent(lockedPool.core, member.id)) {
                 member.isGone = true;
                 member.end();
                 members.remove(member);
@@ -256,7 +256,7 @@ final class Settling<T> {
                 taken++;
             }
         }
-        sections.details.putLong(Core.TAKEN, taken);
+        lockedPool.details.putLong(Core.TAKEN, taken);
     }
 
     /** Notes the end of a loan, if the core took the object back. */
@@ -276,7 +276,7 @@ final class Settling<T> {
     /** Notes the end of a call. A closed pool is closed, whatever a call lacks. */
     private void noteEnd(Call<T> call) {
         boolean lacks = call.end == Core.END_JOURNAL_FULL || call.end == Core.END_OUT_OF_MEMORY;
-        if (lacks && sections.isClosed() && call.needsOpenPool()) {
+        if (lacks && lockedPool.isClosed() && call.needsOpenPool()) {
             call.end = Core.END_CLOSED;
         }
         if (call.end == Core.END_LENT) {
@@ -287,7 +287,7 @@ final class Settling<T> {
         }
         boolean isTimedOut = call.end == Core.END_TIMED_OUT || call.end == Core.END_CANCELLED;
         if (call.kind == Core.KIND_BORROW && (isTimedOut || call.end == Core.END_EXHAUSTED)) {
-            call.shortage.note(sections.name, call, sections.journal.latest(), wakes.waiters.size(), sections.settings());
+            call.shortage.note(lockedPool.name, call, lockedPool.journal.latest(), wakes.waiters.size(), lockedPool.settings());
         }
         boolean isOther = call.error != null || call.obstacle != null || Thread.currentThread().isInterrupted();
         if (call.kind == Core.KIND_BORROW && isTimedOut && !isOther) {

@@ -6,34 +6,34 @@ import java.nio.file.Path;
 
 /** Cuts and stores the journal of a pool, as its calls and its user ask for it, and as the pool ends. */
 final class Storing<T> {
-    private final Sections<T> sections;
+    private final LockedPool<T> lockedPool;
     private final StoredJournal journal;
     private final Work<T> work;
     /** Where the journal is; null if it is in no folder of its own. */
     private final SegmentFolder folder;
 
-    Storing(Sections<T> sections) {
-        this.sections = sections;
-        journal = sections.journal;
-        work = sections.work;
-        folder = sections.sink instanceof SegmentFolder ? (SegmentFolder) sections.sink : null;
+    Storing(LockedPool<T> lockedPool) {
+        this.lockedPool = lockedPool;
+        journal = lockedPool.journal;
+        work = lockedPool.work;
+        folder = lockedPool.sink instanceof SegmentFolder ? (SegmentFolder) lockedPool.sink : null;
     }
 
     /** Has the entries stored from time to time, if the journal is to have that, by a thread with a class loader as that of its context. */
     void startFlusher(Journal of, WeakReference<ClassLoader> context) {
         if (of.isFlushed()) {
-            sections.startFlusher(new Flusher(this, of.flush, context));
+            lockedPool.startFlusher(new Flusher(this, of.flush, context));
         }
     }
 
     boolean isClosed() {
-        return sections.isClosed();
+        return lockedPool.isClosed();
     }
 
     /** Leaves nothing of a pool that could not be made. */
     void undo() {
-        sections.close();
-        sections.wakeFlusher();
+        lockedPool.close();
+        lockedPool.wakeFlusher();
         if (folder != null) {
             folder.remove();
         }
@@ -46,14 +46,14 @@ final class Storing<T> {
 
     /** What is freed from now on is to be stored by the call that frees it: the pool is closed. */
     void endJournal() {
-        sections.wakeFlusher();
-        sections.beginEnd();
+        lockedPool.wakeFlusher();
+        lockedPool.beginEnd();
         flush();
     }
 
     /** Stores the rest of the journal of a closed pool, once it has as many entries as objects are left: a segment has a line for each of these. */
     void storeLast() {
-        Counts counts = sections.completing(journal::counts);
+        Counts counts = lockedPool.completing(journal::counts);
         if (counts.entries() < counts.lent() + counts.reserved()) {
             return;
         }
@@ -62,7 +62,7 @@ final class Storing<T> {
 
     /** Does what {@link #flush} does for a call of its own, which is refused if the stack is too full: a lock would be kept. */
     void flushJournal() {
-        sections.requireStack();
+        lockedPool.requireStack();
         flush();
     }
 
@@ -80,7 +80,7 @@ final class Storing<T> {
     }
 
     private void cutRest() {
-        sections.completing(() -> {
+        lockedPool.completing(() -> {
             journal.cutRest();
             return null;
         });
@@ -122,7 +122,7 @@ final class Storing<T> {
 
     /** Returns the journal since it was last cut. */
     Segment segment() {
-        Segment segment = sections.locked(journal::segment);
+        Segment segment = lockedPool.locked(journal::segment);
         if (segment == null) {
             throw new OutOfMemoryError("zuphinka: no memory for the journal's text");
         }
@@ -134,6 +134,6 @@ final class Storing<T> {
         if (journal.isStored()) {
             throw new UnsupportedOperationException("cut: this pool stores its journal; flushJournal stores what it has so far");
         }
-        return sections.locked(journal::cutNow);
+        return lockedPool.locked(journal::cutNow);
     }
 }

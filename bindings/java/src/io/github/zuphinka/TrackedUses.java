@@ -15,19 +15,19 @@ final class TrackedUses<T> {
     /** The times of the core are, and those of its settings. */
     private static final long ROUNDING_NANOS = 2_000_000;
 
-    private final Sections<T> sections;
+    private final LockedPool<T> lockedPool;
     private final Room<T> room;
     private final Work<T> work;
 
-    TrackedUses(Sections<T> sections, Room<T> room) {
-        this.sections = sections;
+    TrackedUses(LockedPool<T> lockedPool, Room<T> room) {
+        this.lockedPool = lockedPool;
         this.room = room;
-        work = sections.work;
+        work = lockedPool.work;
     }
 
     /** Remembers the answer of an object whose loan begins, or whose use is noted, if it can be abandoned. It is asked again if it throws. */
     void remember(Member<T> member) {
-        if (work.hasTracked() && sections.settings().canBeAbandoned() && isTracked(member)) {
+        if (work.hasTracked() && lockedPool.settings().canBeAbandoned() && isTracked(member)) {
             try {
                 member.reported = reportOf(member);
             } catch (RuntimeException e) {
@@ -54,10 +54,10 @@ final class TrackedUses<T> {
      * pool, and keeps it until the borrow has begun.
      */
     boolean isToAsk() {
-        Counts now = sections.journal.latest();
-        int maxTotal = sections.settings().maxTotal;
+        Counts now = lockedPool.journal.latest();
+        int maxTotal = lockedPool.settings().maxTotal;
         boolean isNearLimit = now.idle() < 2 && (maxTotal < 0 || now.lent() + now.reserved() > maxTotal - 3);
-        return mayReclaim(sections.settings()) && (isNearLimit || now.room() == 0);
+        return mayReclaim(lockedPool.settings()) && (isNearLimit || now.room() == 0);
     }
 
     /** Notes the uses of all lent objects that may be abandoned soon, for a borrow with a limit or another call. */
@@ -92,7 +92,7 @@ final class TrackedUses<T> {
      * the latest after half of the time for that. It takes no lock.
      */
     private boolean isSoonAbandoned(long usedAt) {
-        return System.nanoTime() - usedAt >= sections.settings().abandonedNanos / 2 - ROUNDING_NANOS;
+        return System.nanoTime() - usedAt >= lockedPool.settings().abandonedNanos / 2 - ROUNDING_NANOS;
     }
 
     /** Notes that the holder of an object last used it so many nanoseconds ago, for a borrow with a limit or another call. */
@@ -102,9 +102,9 @@ final class TrackedUses<T> {
             call.limitTo(longestNanos, CoreSettings.MOST_MILLIS);
         }
         long used = System.nanoTime() - nanosAgo;
-        while (!hasNoted(member, Math.max(used, sections.start), call)) {
+        while (!hasNoted(member, Math.max(used, lockedPool.start), call)) {
             if (room.make(call) != Core.REPORT_ROOM_MADE) {
-                boolean isRefused = sections.isClosed() && call.needsOpenPool();
+                boolean isRefused = lockedPool.isClosed() && call.needsOpenPool();
                 call.end = isRefused ? Core.END_CLOSED : call.isGivenUp ? Core.END_CANCELLED : Core.END_JOURNAL_FULL;
                 Ends.check(call);
             }
@@ -113,16 +113,16 @@ final class TrackedUses<T> {
 
     /** Notes a use at a time of {@link System#nanoTime}, unless a later one or loan is known, and returns whether the journal had room for that. */
     private boolean hasNoted(Member<T> member, long used, Call<T> call) {
-        sections.take();
+        lockedPool.take();
         try {
             if (!member.isUsedBefore(used)) {
                 return true;
             }
-            sections.see(call.caller);
-            int status = Core.use(sections.core, sections.millis(used), member.id, call.caller);
+            lockedPool.see(call.caller);
+            int status = Core.use(lockedPool.core, lockedPool.millis(used), member.id, call.caller);
             if (status == Core.STATUS_JOURNAL_FULL) {
-                call.cuts = sections.journal.cuts();
-                call.isRefused = sections.isClosed();
+                call.cuts = lockedPool.journal.cuts();
+                call.isRefused = lockedPool.isClosed();
                 return false;
             }
             if (status < 0) {
@@ -131,7 +131,7 @@ final class TrackedUses<T> {
             member.use(used);
             return true;
         } finally {
-            sections.release();
+            lockedPool.release();
         }
     }
 }

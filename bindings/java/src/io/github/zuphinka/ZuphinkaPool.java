@@ -51,7 +51,7 @@ import org.apache.commons.pool2.impl.GenericObjectPoolConfig;
  */
 public class ZuphinkaPool<T> extends MeasuredPool<T> implements ObjectPool<T>, UsageTracking<T> {
     private final Work<T> work;
-    private final Sections<T> sections;
+    private final LockedPool<T> lockedPool;
     private final Storing<T> storing;
     private final Calls<T> calls;
     private final Numbers numbers;
@@ -124,15 +124,15 @@ public class ZuphinkaPool<T> extends MeasuredPool<T> implements ObjectPool<T>, U
         }
         CoreSettings<T> settings = new CoreSettings<>(config, abandoned, journal.limit, Duration.ZERO);
         work = new Work<>(factory, settings, objects, this::swallow);
-        sections = new Sections<>(settings, journal, work);
-        storing = new Storing<>(sections);
-        calls = new Calls<>(sections, storing);
-        numbers = new Numbers(sections);
-        leaks = new Leaks<>(this, objects, sections, numbers, context);
+        lockedPool = new LockedPool<>(settings, journal, work);
+        storing = new Storing<>(lockedPool);
+        calls = new Calls<>(lockedPool, storing);
+        numbers = new Numbers(lockedPool);
+        leaks = new Leaks<>(this, objects, lockedPool, numbers, context);
         try {
             beanName = config.getJmxEnabled() ? PoolBean.register(this, config, factory.getClass().getName()) : null;
             isRegistered.set(beanName != null);
-            sections.name = nameOf(beanName, config, factory);
+            lockedPool.name = nameOf(beanName, config, factory);
             startMaintenance();
             storing.startFlusher(journal, context);
         } catch (Throwable e) {
@@ -163,7 +163,7 @@ public class ZuphinkaPool<T> extends MeasuredPool<T> implements ObjectPool<T>, U
 
     @Override
     final CoreSettings<T> settings() {
-        return sections.settings();
+        return lockedPool.settings();
     }
 
     @Override
@@ -171,7 +171,7 @@ public class ZuphinkaPool<T> extends MeasuredPool<T> implements ObjectPool<T>, U
         CoreSettings<T> known;
         do {
             known = settings();
-        } while (!sections.isReconfigured(known, change.apply(known)));
+        } while (!lockedPool.isReconfigured(known, change.apply(known)));
         startMaintenance();
         storing.storeWaiting();
     }
@@ -593,7 +593,7 @@ public class ZuphinkaPool<T> extends MeasuredPool<T> implements ObjectPool<T>, U
         try {
             calls.make(Core.KIND_CLOSE, null);
         } finally {
-            if (sections.isClosed()) {
+            if (lockedPool.isClosed()) {
                 end();
             }
         }
@@ -682,7 +682,7 @@ public class ZuphinkaPool<T> extends MeasuredPool<T> implements ObjectPool<T>, U
      * @return true from the first {@link #close} on
      */
     public boolean isClosed() {
-        return sections.isClosed();
+        return lockedPool.isClosed();
     }
 
     /**
@@ -704,7 +704,7 @@ public class ZuphinkaPool<T> extends MeasuredPool<T> implements ObjectPool<T>, U
         Counts counts = numbers.counts();
         String objects = ", lent " + counts.lent() + ", reserved " + counts.reserved() + ", idle " + counts.idle();
         String limits = ", waiting " + getNumWaiters() + ", maxTotal " + getMaxTotal();
-        return "ZuphinkaPool[pool " + sections.name + objects + limits + (isClosed() ? ", closed]" : "]");
+        return "ZuphinkaPool[pool " + lockedPool.name + objects + limits + (isClosed() ? ", closed]" : "]");
     }
 
     // The journal.

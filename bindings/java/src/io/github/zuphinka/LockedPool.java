@@ -9,10 +9,10 @@ import java.util.concurrent.locks.LockSupport;
 import java.util.function.Supplier;
 
 /**
- * The critical sections of a pool: its lock, and what that protects. The core says what a call does next. The call does that without the lock, and reports
- * it in a further section, until it is over.
+ * A pool under its lock: the critical sections, and what the lock protects. The core says what a call does next. The call does that without the
+ * lock, and reports it in a further section, until it is over.
  */
-final class Sections<T> {
+final class LockedPool<T> {
     private static final long NANOS_OF_MILLI = 1_000_000;
 
     final Work<T> work;
@@ -42,7 +42,7 @@ final class Sections<T> {
     /** The names of the callers, for the journal; null if that has none. */
     private final CallerNames names;
 
-    Sections(CoreSettings<T> settings, Journal journal, Work<T> work) {
+    LockedPool(CoreSettings<T> settings, Journal journal, Work<T> work) {
         Instant zero = Instant.now();
         this.work = work;
         JournalRoom.require(settings, journal);
